@@ -17,17 +17,17 @@ use Rattle.stages.specs.Ranges.{lowered, at}
 
 -- Y0 = floor((I0 + 2 × I1 + I2) / 4)
 abbrev pub luma : Bounds → Bounds → Bounds → Bounds
-luma a b c = record
-  { least = floorOver (a .least +ℤ (pos 2 *ℤ b .least +ℤ c .least)) 2
-  ; greatest = floorOver (a .greatest +ℤ (pos 2 *ℤ b .greatest +ℤ c .greatest)) 2
-  }
+luma a b c = record {
+  least = floorOver (a .least +ℤ (pos 2 *ℤ b .least +ℤ c .least)) 2;
+  greatest = floorOver (a .greatest +ℤ (pos 2 *ℤ b .greatest +ℤ c .greatest)) 2;
+}
 
 -- Y1 = I2 - I1 and Y2 = I0 - I1
 abbrev pub rctAfter : Rct → List Bounds → List Bounds
 rctAfter r bs =
     map (λ c. cond (eqb c (r .first)) (luma (at bs (r .first)) (at bs (r .first + 1)) (at bs (r .first + 2)))
-      (cond (eqb c (r .first + 1)) (lowered (at bs (r .first + 2)) (at bs (r .first + 1)))
-      (cond (eqb c (r .first + 2)) (lowered (at bs (r .first)) (at bs (r .first + 1))) (at bs c))))
+    (cond (eqb c (r .first + 1)) (lowered (at bs (r .first + 2)) (at bs (r .first + 1)))
+    (cond (eqb c (r .first + 2)) (lowered (at bs (r .first)) (at bs (r .first + 1))) (at bs c))))
     (counting 0 (length bs))
 
 -- the three new spans, which are all the bounds that it makes

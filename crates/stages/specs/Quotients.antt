@@ -37,10 +37,10 @@ greatestSum (a ∷ ts) (b ∷ bs) = maxZ (a *ℤ b .least) (a *ℤ b .greatest) 
 
 -- the least and the greatest quotient over spans
 unfoldable pub reachOf : Quotient → List Bounds → Bounds
-reachOf q bs = record
-  { least = floorOver (leastSum (tapsOf q) bs +ℤ q .residue) (q .exponent)
-  ; greatest = floorOver (greatestSum (tapsOf q) bs +ℤ q .residue) (q .exponent)
-  }
+reachOf q bs = record {
+  least = floorOver (leastSum (tapsOf q) bs +ℤ q .residue) (q .exponent);
+  greatest = floorOver (greatestSum (tapsOf q) bs +ℤ q .residue) (q .exponent);
+}
 
 -- each sample lies in its span
 pub data Inside : List ℤ → List Bounds → Type 0 where

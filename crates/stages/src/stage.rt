@@ -1,7 +1,6 @@
 ghost use mathlib.Core.Path.{_≡_};
 ghost use Prim.Native.Nat.{_+_, _≤_};
 ghost use lib.ListN.{length};
-
 use crate::quotient::Quotient;
 
 // The axis along which a lifting runs: the samples of a channel, or the channels at one sample.

@@ -1,7 +1,6 @@
 ghost use mathlib.Core.Bool.{Bool};
 ghost use mathlib.Core.Path.{_≡_};
 ghost use Rattle.stages.specs.Stages.{fitsIn, spansRefused, answered, spansLeft};
-
 use crate::stage::Stage;
 
 impl Stage {
