@@ -1,0 +1,11 @@
+pub mod Floors
+pub mod Products
+pub mod Sums
+pub mod Spans
+pub mod Mirrors
+pub mod Every
+pub mod Parts
+pub mod Plains
+pub mod Walks
+pub mod Refused
+pub mod Extremes

@@ -1,7 +1,11 @@
 pub mod Floors
 pub mod Ranges
+pub mod Plain
 pub mod Quotients
+pub mod Made
 pub mod Lines
 pub mod Lifting
+pub mod Slots
 pub mod Channels
 pub mod Stages
+pub mod Worked

@@ -13,49 +13,48 @@ use Rattle.sets.specs.declared.refusal.Refusal.{Refusal}
 use Rattle.sets.specs.declared.refusal.Refusal.the-variants.{BadShape, SpanCount, DoesNotFit, TooWide}
 use Rattle.sets.specs.declared.shape.Shape.{Shape}
 use Rattle.sets.specs.Sets.{inLimits}
-use Rattle.stages.specs.declared.stage.Stage.{Stage}
-use Rattle.stages.specs.declared.stage.Stage.the-variants.{Lift, Dep, Rct}
 use Rattle.stages.specs.Channels.{rctAfter, rctMade, depAfter, depMade}
 use Rattle.stages.specs.Lifting.{liftAfter, liftMade}
+use Rattle.stages.specs.Plain.{Plain, lift, dep, rct}
 use Rattle.stages.specs.Ranges.{allFit}
 
 -- a stage lists the channels from firstOf on, before endOf
-abbrev pub firstOf : Stage → ℕ
-firstOf (Lift l) = l .first
-firstOf (Dep d) = d .first
-firstOf (Rct r) = r .first
+abbrev pub firstOf : Plain → ℕ
+firstOf (lift l ss) = l .first
+firstOf (dep first rows) = first
+firstOf (rct first) = first
 
-abbrev pub endOf : Stage → ℕ
-endOf (Lift l) = l .first + l .count
-endOf (Dep d) = d .first + d .count
-endOf (Rct r) = r .first + 3
+abbrev pub endOf : Plain → ℕ
+endOf (lift l ss) = l .first + l .count
+endOf (dep first rows) = first + (length rows + 1)
+endOf (rct first) = first + 3
 
-abbrev pub lists : Stage → ℕ → Bool
+abbrev pub lists : Plain → ℕ → Bool
 lists s c = leb (firstOf s) c && ltb c (endOf s)
 
 -- it fits when all its channels are below C
-abbrev pub fitsIn : Stage → ℕ → Bool
+abbrev pub fitsIn : Plain → ℕ → Bool
 fitsIn s n = leb (endOf s) n
 
 -- the spans after the stage
-abbrev pub spansAfter : Shape → Stage → List Bounds → List Bounds
-spansAfter f (Lift l) bs = liftAfter f l bs
-spansAfter f (Dep d) bs = depAfter d bs
-spansAfter f (Rct r) bs = rctAfter r bs
+abbrev pub spansAfter : Shape → Plain → List Bounds → List Bounds
+spansAfter f (lift l ss) bs = liftAfter f l ss bs
+spansAfter f (dep first rows) bs = depAfter first rows bs
+spansAfter f (rct first) bs = rctAfter first bs
 
 -- every bound that the rule makes on the way, between two steps too
-abbrev pub boundsMade : Shape → Stage → List Bounds → List Bounds
-boundsMade f (Lift l) bs = liftMade f l bs
-boundsMade f (Dep d) bs = depMade d bs
-boundsMade f (Rct r) bs = rctMade r bs
+abbrev pub boundsMade : Shape → Plain → List Bounds → List Bounds
+boundsMade f (lift l ss) bs = liftMade f l ss bs
+boundsMade f (dep first rows) bs = depMade first rows bs
+boundsMade f (rct first) bs = rctMade first bs
 
 -- the first refusal whose cause holds: a cause is a test that should have passed
 abbrev pub unless : Bool → Refusal → Option Refusal → Option Refusal
 unless true e rest = rest
 unless false e rest = Some e
 
--- the rule on spans is refused 1, 2, 8 and 9, in that order
-unfoldable pub spansRefused : Shape → Stage → List Bounds → Option Refusal
+-- the rule on spans is refused for a bad shape, a wrong number of spans, a stage that does not fit and a bound beyond 32 bits, in that order
+unfoldable pub spansRefused : Shape → Plain → List Bounds → Option Refusal
 spansRefused f s bs = unless (inLimits f) BadShape (unless (eqb (length bs) (f .channels)) SpanCount (unless (fitsIn s (f .channels)) DoesNotFit (unless (allFit (boundsMade f s bs)) TooWide None)))
 
 abbrev pub answered : Option Refusal → Result Unit Refusal
@@ -63,6 +62,6 @@ answered None = Ok tt
 answered (Some e) = Err e
 
 -- the list of spans after a call: the rule's, or unaltered where the call is refused
-abbrev pub spansLeft : Shape → Stage → List Bounds → Option Refusal → List Bounds
+abbrev pub spansLeft : Shape → Plain → List Bounds → Option Refusal → List Bounds
 spansLeft f s bs None = spansAfter f s bs
 spansLeft f s bs (Some e) = bs

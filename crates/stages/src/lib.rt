@@ -1,4 +1,21 @@
 // The kinds of stage: lifting, the reversible colour transform, and dependency rows.
+mod dep_spans;
+mod floor;
+mod gather;
+mod lift_channel;
+mod lift_spans;
+mod lift_time;
+mod line;
+mod lines;
+mod parity;
+mod product;
 pub mod quotient;
+mod ranges;
+mod rct_spans;
+pub mod reach;
+mod reaching;
+mod rule;
+mod slots;
 pub mod stage;
 pub mod widen;
+pub mod worked;

@@ -54,6 +54,7 @@ pub struct Dep {
     pub count: usize,
     pub rows: [Quotient; 7],
     ghost inside: { first + count ≤ 64 },
+    ghost some: { 1 ≤ count },
     ghost few: { count ≤ 8 },
     ghost full: { length rows ≡ 7 },
 }

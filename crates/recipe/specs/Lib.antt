@@ -1,0 +1,10 @@
+pub mod Causes
+pub mod Fields
+pub mod Tables
+pub mod Rules
+pub mod Grammar
+pub mod Requests
+pub mod Written
+pub mod RequestLaws
+pub mod Promises
+pub mod Replies

@@ -1,0 +1,10 @@
+use mathlib.Core.Path.{refl}
+use Rattle.stages.specs.Floors.{floorOver}
+use Rattle.stages.specs.Lifting.{stepped, ended}
+use Rattle.stages.specs.Lines.{nearest}
+use Rattle.stages.specs.Quotients.{endSum, reachOf}
+use Rattle.stages.proofs.worked.worked_samples.Needs as need
+
+pub returns : need.returns
+unfolding floorOver stepped ended nearest endSum reachOf
+returns c = record { rows = refl; hold = (refl, (refl, (refl, (refl, (refl, (refl, (refl, (refl, tt)))))))) }

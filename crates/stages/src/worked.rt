@@ -1,0 +1,11 @@
+ghost use mathlib.Core.Path.{_≡_};
+ghost use lib.ListN.{length};
+ghost use Rattle.stages.specs.Worked.{table, Worked};
+
+// How many worked samples of the rule on spans there are, each of which holds.
+pub fn worked_samples() -> usize
+    ensures rows { λ r. ⌜ r ≡ length table ⌝ }
+    ensures hold { λ r. ⌜ Worked ⌝ }
+{
+    8
+}
