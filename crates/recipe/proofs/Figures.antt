@@ -21,6 +21,7 @@ use Rattle.recipe.specs.declared.fault.Cause.the-variants.{NotListed, OutsideL
 use Rattle.recipe.specs.Fields.{every, empty, isDigit, isNatural, isNumber, isWord, isZero, leadingZero, readOn, valueOf}
 use Rattle.recipe.specs.Rules.{listed, between, same, wrong}
 use Rattle.recipe.proofs.Parting.{Free}
+use Rattle.recipe.proofs.Letters.{digit-range}
 
 own : Numerals (λ ds. every isDigit ds ≡ true) (readOn 0)
 own = numerals-by-fold _ (search needs) readOn (search needs)
@@ -82,16 +83,13 @@ natural-decimal n h =
     and-from (not (empty (decimal n))) _ (not-from-false _ (not-empty (decimal n) (decimal-some n h)))
     (and-from (every isDigit (decimal n)) _ (digits-decimal own n h) (not-from-false _ (decimal-leading n h)))
 
-digit-bounds : (b : ℕ) → isDigit b ≡ true → (48 ≤ b) × (b ≤ 57)
-digit-bounds b h = let parts = and-parts (leb 48 b) (leb b 57) h in (leb-true 48 b (parts .0), leb-true b 57 (parts .1))
-
 -- what begins with a digit has no sign
 unsigned-value : (ds : List ℕ) → isNatural ds ≡ true → (isNumber ds ≡ true) × (valueOf ds ≡ pos (readOn 0 ds))
 unfolding isNumber valueOf
 unsigned-value [] h = absurd (both-ways _ refl h)
 unsigned-value (b ∷ bs) h =
     let digits = and-parts (every isDigit (b ∷ bs)) _ (and-parts (not (empty (b ∷ bs))) _ h .1) .0 in
-    let first = digit-bounds b (and-parts (isDigit b) (every isDigit bs) digits .0) in
+    let first = digit-range b (and-parts (isDigit b) (every isDigit bs) digits .0) in
     let plain : eqb b 45 ≡ false = ne-eqb b 45 (λ e. omega arith) in
     (cond-false (eqb b 45) _ _ plain ∙ h, cond-false (eqb b 45) _ _ plain)
 
@@ -110,7 +108,7 @@ free-digits : (s : ℕ) (ds : List ℕ) → s < 48 → every isDigit ds ≡ true
 free-digits s [] l h = tt
 free-digits s (b ∷ bs) l h =
     let parts = and-parts (isDigit b) (every isDigit bs) h in
-    let low = digit-bounds b (parts .0) .0 in
+    let low = digit-range b (parts .0) .0 in
     (ne-eqb b s (λ e. omega arith), free-digits s bs l (parts .1))
 
 free-signed : (s : ℕ) (z : ℤ) → s < 45 → mag z < 2 ^ 63 → Free s (signed z)

@@ -22,14 +22,12 @@ use Rattle.recipe.specs.Grammar.{Sofar, atHand, formBegun, formInside, formDue
 use Rattle.stages.specs.Plain.{Plain, plain, rct as an-rct}
 use Rattle.recipe.specs.Promises.{Judged, Begins, Opened, LinesFit, headed, fieldsIn}
 use Rattle.recipe.specs.Rules.{Form, lift, dep, rct, same, field, hasFields, firstWrong, rulesOf}
+use Rattle.recipe.proofs.Rulings.{some-none}
 
 -- one comma fewer than fields
 pub commas-fields : (r n m : ℕ) → r + 1 ≡ n → eqb r m ≡ eqb n (m + 1)
 commas-fields r n m e =
     elim (cases-eq r m) [ inl s ↦ eq-eqb r m s ∙ sym (eq-eqb n (m + 1) (omega arith)) | inr d ↦ ne-eqb r m d ∙ sym (ne-eqb n (m + 1) (λ s. d (omega arith))) ]
-
-some-none : {f : Fault} → Some f ≡ None → ⊥
-some-none p = search needs
 
 -- the word and the fields, tested one after the other
 module _ (word sized : Bool) (line : ℕ) (rest first second : Option Fault) (f₁ f₂ : Fault) (is₁ : first ≡ Some f₁) (is₂ : second ≡ Some f₂) where
@@ -37,7 +35,7 @@ module _ (word sized : Bool) (line : ℕ) (rest first second : Option Fault) (f�
   tested-fault f = by word sized
     where
       by : (word sized : Bool) → cond word (cond sized None second) first ≡ Some f → cond word (cond sized rest second) first ≡ Some f
-      by true true e = absurd (some-none (sym e))
+      by true true e = absurd (some-none _ (sym e))
       by true false e = e
       by false t e = e
 
@@ -46,8 +44,8 @@ module _ (word sized : Bool) (line : ℕ) (rest first second : Option Fault) (f�
     where
       by : (word sized : Bool) → cond word (cond sized None second) first ≡ None → (word ≡ true) × (cond word (cond sized rest second) first ≡ rest)
       by true true e = (refl, refl)
-      by true false e = absurd (some-none (sym is₂ ∙ e))
-      by false t e = absurd (some-none (sym is₁ ∙ e))
+      by true false e = absurd (some-none _ (sym is₂ ∙ e))
+      by false t e = absurd (some-none _ (sym is₁ ∙ e))
 
 -- a line by which a stage begins
 module _ (ts : List Plain) (l : Line) (g : Form) (is : formBegun (field (fieldsIn l) 0) ≡ Some g) (sized : Bool) (fits : sized ≡ hasFields g (length (fieldsIn l))) where
@@ -99,7 +97,7 @@ module _ (s : Sofar) (due : 0 < s .left) (line : ℕ) (fs : List (List ℕ)) whe
     where
       by : (t : Bool) → cond t (cond (hasFields g (length fs)) (firstWrong line fs 1 (rulesOf g fs)) (faultAt FieldCount line)) (faultAt WordDue line) ≡ None → t ≡ true
       by true e = refl
-      by false e = absurd (some-none e)
+      by false e = absurd (some-none _ e)
 
   pub inside-taken : (p : Plain) (w : List ℕ) (g : Form) → atHand (s .stages) ≡ Some p → ((v : List ℕ) → formInside (Some p) v ≡ cond (same v w) (Some g) None) → headed w g line fs ≡ None → taken s fs ≡ formTaken s fs (Some g)
   unfolding taken

@@ -12,20 +12,11 @@ use Rattle.std.proofs.shelf.Elements.{all-append}
 use Rattle.std.proofs.shelf.Tests.{eqb-true, cond-true, cond-false, eq-eqb}
 use Rattle.recipe.specs.Fields.{onto, cut, heads, final, linesOf, tailOf, fieldsOf}
 use Rattle.recipe.specs.Written.{parted, ended}
+use Rattle.recipe.proofs.Cuts.{cut-some}
 
 -- no byte of a part is the separator
 abbrev pub Free : ℕ → List ℕ → Type 0
 Free s bs = All (λ b. eqb b s ≡ false) bs
-
--- there is always a first part
-cut-some : (s : ℕ) (bs : List ℕ) → 1 ≤ length (cut s bs)
-cut-some s [] = omega arith
-cut-some s (b ∷ bs) = by (eqb b s) (cut s bs)
-  where
-    by : (t : Bool) (ps : List (List ℕ)) → 1 ≤ length (cond t ([] ∷ ps) (onto b ps))
-    by true ps = omega arith
-    by false [] = omega arith
-    by false (p ∷ ps) = omega arith
 
 parted-onto : (s b : ℕ) (ps : List (List ℕ)) → parted s (onto b ps) ≡ b ∷ parted s ps
 parted-onto s b [] = refl
@@ -74,11 +65,11 @@ free-parted s c [] e h = tt
 free-parted s c (p ∷ []) e h = h .0
 free-parted s c (p ∷ q ∷ ps) e h = all-append (λ b. eqb b s ≡ false) p (c ∷ parted c (q ∷ ps)) (h .0) (e, free-parted s c (q ∷ ps) e (h .1))
 
-heads-cons : (p : List ℕ) (ps : List (List ℕ)) → 1 ≤ length ps → heads (p ∷ ps) ≡ p ∷ heads ps
+pub heads-cons : (p : List ℕ) (ps : List (List ℕ)) → 1 ≤ length ps → heads (p ∷ ps) ≡ p ∷ heads ps
 heads-cons p [] h = absurd (omega arith)
 heads-cons p (q ∷ ps) h = refl
 
-final-cons : (p : List ℕ) (ps : List (List ℕ)) → 1 ≤ length ps → final (p ∷ ps) ≡ final ps
+pub final-cons : (p : List ℕ) (ps : List (List ℕ)) → 1 ≤ length ps → final (p ∷ ps) ≡ final ps
 final-cons p [] h = absurd (omega arith)
 final-cons p (q ∷ ps) h = refl
 

@@ -20,6 +20,7 @@ use Rattle.recipe.specs.Written.{liftLine, stepLine, depLine, rowLine, stageLi
 use Rattle.recipe.proofs.Figures.{none-cond, same-true}
 use Rattle.recipe.proofs.Rulings.{some-none}
 use Rattle.recipe.proofs.LineForms.{Kept, lift-from-kept, step-from-kept, row-from-kept, dep-from-kept, rct-from-kept}
+use Rattle.recipe.proofs.Tables.{atHand-last, withStep-lift, withRow-dep}
 
 -- between two stages, or inside the last, with n lines due behind the next one
 pub data Place : Type 0 where
@@ -63,27 +64,12 @@ kept-from-none s line fs g h =
 pub none-from-kept : (s : Sofar) (line : ℕ) (fs : List (List ℕ)) (g : Form) → hasRoom s ≡ true → Kept g line fs → formFault s line fs (Some g) ≡ None
 none-from-kept s line fs g room h = cond-true (hasRoom s) _ _ room ∙ (cond-true (hasFields g (length fs)) _ _ (h .fields) ∙ h .rules)
 
-at-hand : (ts : List Plain) (t : Plain) → atHand (ts ++ t ∷ []) ≡ Some t
-at-hand [] t = refl
-at-hand (s ∷ []) t = refl
-at-hand (s ∷ u ∷ us) t = at-hand (u ∷ us) t
-
-with-step : (x : PlainStep) (ts : List Plain) (l : PlainLift) (ss : List PlainStep) → withStep x (ts ++ a-lift l ss ∷ []) ≡ ts ++ a-lift l (ss ++ x ∷ []) ∷ []
-with-step x [] l ss = refl
-with-step x (s ∷ []) l ss = refl
-with-step x (s ∷ u ∷ us) l ss = ap (λ (r : List Plain). s ∷ r) (with-step x (u ∷ us) l ss)
-
-with-row : (x : PlainRow) (ts : List Plain) (first : ℕ) (rs : List PlainRow) → withRow x (ts ++ a-dep first rs ∷ []) ≡ ts ++ a-dep first (rs ++ x ∷ []) ∷ []
-with-row x [] first rs = refl
-with-row x (s ∷ []) first rs = refl
-with-row x (s ∷ u ∷ us) first rs = ap (λ (r : List Plain). s ∷ r) (with-row x (u ∷ us) first rs)
-
 -- the form that is due inside a stage
 pub due-step : (ts : List Plain) (l : PlainLift) (ss : List PlainStep) (n : ℕ) (w : List ℕ) → formDue (sofar (in-lift ts l ss n)) w ≡ cond (same w (codes "STEP")) (Some step) None
-due-step ts l ss n w = cond-false (eqb (suc n) 0) _ _ (eqb·suc-zero n) ∙ ap (λ o. formInside o w) (at-hand ts (a-lift l ss))
+due-step ts l ss n w = cond-false (eqb (suc n) 0) _ _ (eqb·suc-zero n) ∙ ap (λ o. formInside o w) (atHand-last ts (a-lift l ss))
 
 pub due-row : (ts : List Plain) (first : ℕ) (rs : List PlainRow) (n : ℕ) (w : List ℕ) → formDue (sofar (in-dep ts first rs n)) w ≡ cond (same w (codes "ROW")) (Some (row (length rs + 1))) None
-due-row ts first rs n w = cond-false (eqb (suc n) 0) _ _ (eqb·suc-zero n) ∙ ap (λ o. formInside o w) (at-hand ts (a-dep first rs))
+due-row ts first rs n w = cond-false (eqb (suc n) 0) _ _ (eqb·suc-zero n) ∙ ap (λ o. formInside o w) (atHand-last ts (a-dep first rs))
 
 pub inside-room : (ts : List Plain) (n : ℕ) → hasRoom (record { stages = ts; left = suc n }) ≡ true
 inside-room ts n = cond-false (eqb (suc n) 0) _ _ (eqb·suc-zero n)
@@ -95,8 +81,8 @@ step-taken ts l ss n gs =
     ap (formTaken (sofar (in-lift ts l ss n)) fs) (due-step ts l ss n (codes "STEP")) ∙ by n
   where
     by : (k : ℕ) → formTaken (sofar (in-lift ts l ss k)) (codes "STEP" ∷ gs) (Some step) ≡ sofar (stepped ts l (ss ++ stepFrom (codes "STEP" ∷ gs) ∷ []) k)
-    by zero = λ i. record { stages = with-step (stepFrom (codes "STEP" ∷ gs)) ts l ss i; left = 0 }
-    by (suc k) = let e : suc (suc k) - 1 ≡ suc k = omega arith in λ i. record { stages = with-step (stepFrom (codes "STEP" ∷ gs)) ts l ss i; left = e i }
+    by zero = λ i. record { stages = withStep-lift (stepFrom (codes "STEP" ∷ gs)) ts l ss i; left = 0 }
+    by (suc k) = let e : suc (suc k) - 1 ≡ suc k = omega arith in λ i. record { stages = withStep-lift (stepFrom (codes "STEP" ∷ gs)) ts l ss i; left = e i }
 
 pub row-taken : (ts : List Plain) (first : ℕ) (rs : List PlainRow) (n : ℕ) (gs : List (List ℕ)) → taken (sofar (in-dep ts first rs n)) (codes "ROW" ∷ gs) ≡ sofar (rowed ts first (rs ++ rowFrom (codes "ROW" ∷ gs) ∷ []) n)
 unfolding taken
@@ -105,8 +91,8 @@ row-taken ts first rs n gs =
     ap (formTaken (sofar (in-dep ts first rs n)) fs) (due-row ts first rs n (codes "ROW")) ∙ by n
   where
     by : (k : ℕ) → formTaken (sofar (in-dep ts first rs k)) (codes "ROW" ∷ gs) (Some (row (length rs + 1))) ≡ sofar (rowed ts first (rs ++ rowFrom (codes "ROW" ∷ gs) ∷ []) k)
-    by zero = λ i. record { stages = with-row (rowFrom (codes "ROW" ∷ gs)) ts first rs i; left = 0 }
-    by (suc k) = let e : suc (suc k) - 1 ≡ suc k = omega arith in λ i. record { stages = with-row (rowFrom (codes "ROW" ∷ gs)) ts first rs i; left = e i }
+    by zero = λ i. record { stages = withRow-dep (rowFrom (codes "ROW" ∷ gs)) ts first rs i; left = 0 }
+    by (suc k) = let e : suc (suc k) - 1 ≡ suc k = omega arith in λ i. record { stages = withRow-dep (rowFrom (codes "ROW" ∷ gs)) ts first rs i; left = e i }
 
 -- where a line without fault leads
 pub record Adds (p : Place) (fs : List (List ℕ)) : Type 0 where

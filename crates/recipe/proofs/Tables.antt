@@ -141,12 +141,14 @@ pub step-form : (l : Lift) (v : List ℕ) → formInside (Some (plain (in-lift l
 unfolding plain
 step-form l v = refl
 
-pub row-form : (d : Dep) (n : ℕ) → n ≡ d .count - 1 → (v : List ℕ) → formInside (Some (plain (in-dep d))) v ≡ cond (same v (codes "ROW")) (Some (row (n + 1))) None
+pub row-form : (d : Dep) (v : List ℕ) → formInside (Some (plain (in-dep d))) v ≡ cond (same v (codes "ROW")) (Some (row (d .count))) None
 unfolding plain
-row-form d n e v =
+row-form d v =
     let few = d .few in
-    let m : length (map plainRow (take (d .count - 1) (d .rows))) ≡ n = length-map (take (d .count - 1) (d .rows)) plainRow ∙ length-take (d .count - 1) (d .rows) ∙ ap (min (d .count - 1)) (d .full) ∙ omega arith in
-    ap (λ k. cond (same v (codes "ROW")) (Some (row (k + 1))) None) m
+    let some = d .some in
+    let n = length-map (take (d .count - 1) (d .rows)) plainRow ∙ length-take (d .count - 1) (d .rows) ∙ ap (min (d .count - 1)) (d .full) in
+    let m : length (map plainRow (take (d .count - 1) (d .rows))) + 1 ≡ d .count = omega arith in
+    ap (λ k. cond (same v (codes "ROW")) (Some (row k)) None) m
 
 pub rct-plain : (r : Rct) → plain (in-rct r) ≡ rct (r .first)
 unfolding plain

@@ -18,14 +18,7 @@ use Rattle.recipe.specs.Grammar.{Sofar, lineFault, taken, readFrom}
 use Rattle.stages.specs.Plain.{Plain}
 use Rattle.recipe.specs.Promises.{Reads}
 use Rattle.recipe.proofs.Cuts.{Free, cut-at, cut-none, cut-some}
-
-heads-more : (p : List ℕ) (ps : List (List ℕ)) → 1 ≤ length ps → heads (p ∷ ps) ≡ p ∷ heads ps
-heads-more p [] h = absurd (omega arith)
-heads-more p (q ∷ ps) h = refl
-
-final-more : (p : List ℕ) (ps : List (List ℕ)) → 1 ≤ length ps → final (p ∷ ps) ≡ final ps
-final-more p [] h = absurd (omega arith)
-final-more p (q ∷ ps) h = refl
+use Rattle.recipe.proofs.Parting.{heads-cons, final-cons}
 
 past-line : (s : Sofar) (line : ℕ) (l : List ℕ) (ls : List (List ℕ)) (tail : List ℕ) → lineFault s line (fieldsOf l) ≡ None → readFrom s line (l ∷ ls) tail ≡ readFrom (taken s (fieldsOf l)) (line + 1) ls tail
 unfolding readFrom
@@ -39,11 +32,11 @@ at-line s line l ls tail f e = rw (e, readFrom)
 module _ (t : List ℕ) (j : ℕ) (h : j < length t) (free : Free 10 t j) (found : getD t j 0 ≡ 10) where
   pub lines-more : linesOf t ≡ take j t ∷ linesOf (drop (j + 1) t)
   unfolding linesOf
-  lines-more = ap heads (cut-at 10 t j h free found) ∙ heads-more (take j t) (cut 10 (drop (j + 1) t)) (cut-some 10 (drop (j + 1) t))
+  lines-more = ap heads (cut-at 10 t j h free found) ∙ heads-cons (take j t) (cut 10 (drop (j + 1) t)) (cut-some 10 (drop (j + 1) t))
 
   pub tail-more : tailOf t ≡ tailOf (drop (j + 1) t)
   unfolding tailOf
-  tail-more = ap final (cut-at 10 t j h free found) ∙ final-more (take j t) (cut 10 (drop (j + 1) t)) (cut-some 10 (drop (j + 1) t))
+  tail-more = ap final (cut-at 10 t j h free found) ∙ final-cons (take j t) (cut 10 (drop (j + 1) t)) (cut-some 10 (drop (j + 1) t))
 
   split : (s : Sofar) (line : ℕ) → readFrom s line (linesOf t) (tailOf t) ≡ readFrom s line (take j t ∷ linesOf (drop (j + 1) t)) (tailOf (drop (j + 1) t))
   split s line = ap (λ ls. readFrom s line ls (tailOf t)) lines-more ∙ ap (readFrom s line (take j t ∷ linesOf (drop (j + 1) t))) tail-more

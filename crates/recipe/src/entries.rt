@@ -78,9 +78,8 @@ impl Recipe {
         let Stage::Dep(mut dep) = last else {
             return;
         };
-        let come = dep.count.saturating_sub(1);
-        dep.rows[come] = row;
-        dep.count = come + 2;
+        dep.rows[dep.count - 1] = row;
+        dep.count += 1;
         self.stages[self.len - 1] = Stage::Dep(dep);
     }
 }

@@ -78,7 +78,7 @@ impl Recipe {
                 Ok(left - 1)
             }
             Stage::Dep(dep) => {
-                let row = row_due(line, dep.count.saturating_sub(1) + 1)?;
+                let row = row_due(line, dep.count)?;
                 self.add_row(row);
                 Ok(left - 1)
             }

@@ -10,7 +10,7 @@ use Rattle.stages.specs.Plain.{plain, plainRow, dep as a-dep}
 use Rattle.recipe.specs.Tables.{tableOf}
 use Rattle.recipe.proofs.Tables.{front, last-of, set-last, fits-last, withRow-dep, withRow-other, room-dep}
 use Rattle.recipe.proofs.table.Recipe.add_row.Needs as need
-use Rattle.recipe.proofs.table.Recipe.add_row.Needs.{In-Dep, at·listed-2, at·index-dep-come, at·ghost-dep, at·returns}
+use Rattle.recipe.proofs.table.Recipe.add_row.Needs.{In-Dep, at·listed-2, at·index-dep-dep, at·ghost-dep, at·returns}
 
 before : (c : In-Dep) → tableOf (c .args .self .now) ≡ front (c .args .self .now .stages) (c .args .self .now .len) ++ plain (in-dep (c .in-Dep .dep)) ∷ []
 before c =
@@ -30,8 +30,8 @@ returns-in-rest c =
 pub listed-2 : need.listed-2
 listed-2 c = omega (arith, room (at·listed-2 c .In-Dep))
 
-pub index-dep-come : need.index-dep-come
-index-dep-come c = omega (arith, room (at·index-dep-come c .In-Dep))
+pub index-dep-dep : need.index-dep-dep
+index-dep-dep c = omega (arith, room (at·index-dep-dep c .In-Dep))
 
 pub ghost-dep : need.ghost-dep
 ghost-dep c =
@@ -45,10 +45,9 @@ returns c =
     let r = c .args .self .now in
     let d = c .in-Dep .dep in
     let h = room (at·returns c .In-Dep) in
-    let n = c .saturating-sub-come .result in
-    let e : n + 2 - 1 ≡ n + 1 = omega arith in
-    let more = ap (λ m. map plainRow (take m (set (d .rows) n (c .args .row)))) e ∙ ap (map plainRow) (take-more-set (d .rows) n (c .args .row) (omega arith)) ∙ map-push plainRow (take n (d .rows)) (c .args .row)
-    ∙ ap (λ m. map plainRow (take m (d .rows)) ++ plainRow (c .args .row) ∷ []) (c .saturating-sub-come .ensures) in
+    let n = d .count - 1 in
+    let e : d .count + 1 - 1 ≡ n + 1 = omega arith in
+    let more = ap (λ m. map plainRow (take m (set (d .rows) n (c .args .row)))) e ∙ ap (map plainRow) (take-more-set (d .rows) n (c .args .row) (omega (arith, d .full))) ∙ map-push plainRow (take n (d .rows)) (c .args .row) in
     set-last (r .stages) (r .len) _ (omega arith) (omega arith)
     ∙ ap (λ rs. front (r .stages) (r .len) ++ a-dep (d .first) rs ∷ []) more
     ∙ sym (withRow-dep (plainRow (c .args .row)) (front (r .stages) (r .len)) (d .first) (map plainRow (take (d .count - 1) (d .rows))))

@@ -15,19 +15,19 @@ use Rattle.recipe.proofs.Faults.{judged-err}
 use Rattle.recipe.proofs.Openings.{inside-fault, inside-taken, inside-rct}
 use Rattle.recipe.proofs.Tables.{sofar, ends, fits-step, fits-row, length-withStep, length-withRow, at-hand, fits-at-hand, room-dep, step-form, row-form, rct-plain}
 use Rattle.recipe.proofs.table.Recipe.inside_line.Needs as need
-use Rattle.recipe.proofs.table.Recipe.inside_line.Needs.{In-Lift, After-saturating-sub, at·returns-in-Break-step, at·returns-in-Continue-step, at·returns-in-Break-row, at·returns-in-Continue-row}
+use Rattle.recipe.proofs.table.Recipe.inside_line.Needs.{In-Lift, In-Dep, at·returns-in-Break-step, at·returns-in-Continue-step, at·returns-in-Break-row, at·returns-in-Continue-row}
 
 lift-at-hand : (c : In-Lift) → atHand (tableOf (c .args .self .now)) ≡ Some (plain (in-lift (c .in-Lift .field-0)))
 lift-at-hand c = at-hand (c .args .self .now) (c .args .left) (c .pre .0) (c .pre .1) _ _ (c .in-Lift .is)
 
-dep-at-hand : (c : After-saturating-sub) → atHand (tableOf (c .args .self .now)) ≡ Some (plain (in-dep (c .in-Dep .dep)))
+dep-at-hand : (c : In-Dep) → atHand (tableOf (c .args .self .now)) ≡ Some (plain (in-dep (c .in-Dep .dep)))
 dep-at-hand c = at-hand (c .args .self .now) (c .args .left) (c .pre .0) (c .pre .1) _ _ (c .in-Dep .is)
 
 step-fault : (c : In-Lift) → lineFault (record { stages = tableOf (c .args .self .now); left = c .args .left }) (c .args .line .now .number) (fieldsIn (c .args .line .now)) ≡ headed (codes "STEP") step (c .args .line .now .number) (fieldsIn (c .args .line .now))
 step-fault c = inside-fault _ (c .pre .0) _ _ _ (codes "STEP") step (lift-at-hand c) (step-form (c .in-Lift .field-0))
 
-row-fault : (c : After-saturating-sub) → lineFault (record { stages = tableOf (c .args .self .now); left = c .args .left }) (c .args .line .now .number) (fieldsIn (c .args .line .now)) ≡ headed (codes "ROW") (row (c .saturating-sub .result + 1)) (c .args .line .now .number) (fieldsIn (c .args .line .now))
-row-fault c = inside-fault _ (c .pre .0) _ _ _ (codes "ROW") (row (c .saturating-sub .result + 1)) (dep-at-hand c) (row-form (c .in-Dep .dep) (c .saturating-sub .result) (c .saturating-sub .ensures))
+row-fault : (c : In-Dep) → lineFault (record { stages = tableOf (c .args .self .now); left = c .args .left }) (c .args .line .now .number) (fieldsIn (c .args .line .now)) ≡ headed (codes "ROW") (row (c .in-Dep .dep .count)) (c .args .line .now .number) (fieldsIn (c .args .line .now))
+row-fault c = inside-fault _ (c .pre .0) _ _ _ (codes "ROW") (row (c .in-Dep .dep .count)) (dep-at-hand c) (row-form (c .in-Dep .dep))
 
 pub returns-in-Break-step : need.returns-in-Break-step
 returns-in-Break-step c =
@@ -42,7 +42,7 @@ row-due-requires c κs =
 pub returns-in-Break-row : need.returns-in-Break-row
 returns-in-Break-row c =
     judged-err _ _ (c .from-residual-in-Break-row .result) _ (err-from-errBy (c .from-residual-in-Break-row .result) (c .from-residual-in-Break-row .ensures .1))
-    (row-fault (at·returns-in-Break-row c .After-saturating-sub) ∙ c .in-Break-row .ensures tt)
+    (row-fault (at·returns-in-Break-row c .In-Dep) ∙ c .in-Break-row .ensures tt)
 
 pub returns-in-Continue-step : need.returns-in-Continue-step
 returns-in-Continue-step c =
@@ -61,14 +61,14 @@ returns-in-Continue-step c =
 
 pub returns-in-Continue-row : need.returns-in-Continue-row
 returns-in-Continue-row c =
-    let so = at·returns-in-Continue-row c .After-saturating-sub in
+    let so = at·returns-in-Continue-row c .In-Dep in
     let done = c .in-Continue-row .ensures tt in
     let ts = tableOf (c .args .self .now) in
     let due = c .pre .0 in
     let n : length (tableOf (c .add-row .last .self)) ≡ length ts = ap length (c .add-row .ensures) ∙ length-withRow _ ts in (
       row-fault so ∙ done .0,
       record {
-        is = inside-taken _ (c .pre .0) _ _ _ (codes "ROW") (row (c .saturating-sub .result + 1)) (dep-at-hand so) (row-form (c .in-Dep .dep) (c .saturating-sub .result) (c .saturating-sub .ensures)) (done .0) ∙ ap (sofar (c .args .left - 1)) (ap (λ x. withRow x ts) (sym (done .1)) ∙ sym (c .add-row .ensures));
+        is = inside-taken _ (c .pre .0) _ _ _ (codes "ROW") (row (c .in-Dep .dep .count)) (dep-at-hand so) (row-form (c .in-Dep .dep)) (done .0) ∙ ap (sofar (c .args .left - 1)) (ap (λ x. withRow x ts) (sym (done .1)) ∙ sym (c .add-row .ensures));
         fits = subst (λ us. LinesFit (atHand us) (c .args .left - 1)) (sym (c .add-row .ensures)) (fits-row _ ts _ _ (c .args .left) (ends (c .args .self .now) (c .args .left) (c .pre .0) (c .pre .1) _ _ (c .in-Dep .is)) (c .pre .0) (fits-at-hand (c .args .self .now) (c .args .left) (c .pre .0) (c .pre .1) _ _ (c .in-Dep .is)));
         fewer = omega arith;
       },
