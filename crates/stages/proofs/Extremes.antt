@@ -1,8 +1,8 @@
 -- The reach of a quotient holds every quotient of samples in the spans, and both its ends are such quotients.
 use mathlib.Core.Bool.{Bool, true, false, cond}
 use mathlib.Core.List.{List, [], _∷_}
-use mathlib.Core.Path.{_≡_, refl, sym, subst, ap, _∙_}
-use Prim.Native.Nat.{ℕ, zero, suc, _+_, _*_, _<_, _≤_}
+use mathlib.Core.Path.{_≡_, refl, ap}
+use Prim.Native.Nat.{ℕ, suc, _+_, _*_, _<_, _≤_}
 use native.Mathlib.Nat.{mul-le-mul-left}
 use native.Mathlib.Omega.{arith}
 use lib.IntN.{ℤ, pos, negsuc, _+ℤ_, _*ℤ_}
@@ -16,7 +16,7 @@ use Rattle.sets.specs.declared.span_list.SpanList.{SpanList}
 use Rattle.sets.specs.Ordered.{noBounds}
 use Rattle.sets.specs.Sets.{rowsOf}
 use Rattle.stages.specs.Floors.{floorOver}
-use Rattle.stages.specs.Quotients.{sumOf, quotientOf, endSum, reachOf, Inside, none, one, Reached, Extremes}
+use Rattle.stages.specs.Quotients.{sumOf, quotientOf, endSum, reachOf, Inside, none, one, Extremes}
 use Rattle.stages.specs.Ranges.{at}
 use Rattle.stages.proofs.Floors.{floor-mono}
 

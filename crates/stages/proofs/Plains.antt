@@ -3,7 +3,6 @@ use mathlib.Core.List.{List}
 use mathlib.Core.Path.{_≡_, refl, sym, subst, ap, _∙_}
 use Prim.Native.Nat.{ℕ, _+_, _-_}
 use native.Mathlib.Omega.{arith}
-use lib.Dec.{leb}
 use lib.ListN.{length}
 use Rattle.std.proofs.shelf.Lists.{length-map, length-take}
 use Rattle.std.specs.declared.option.Option.{Option}
@@ -14,9 +13,9 @@ use Rattle.stages.specs.declared.stage.Dep.{Dep}
 use Rattle.stages.specs.declared.stage.Stage.{Stage}
 use Rattle.stages.specs.declared.stage.Stage.the-variants as kind
 use Rattle.stages.specs.Made.{MadeList}
-use Rattle.stages.specs.Plain.{plain, plainRow, plainRows}
+use Rattle.stages.specs.Plain.{plain, plainRows}
 use Rattle.stages.specs.Ranges.{allFit}
-use Rattle.stages.specs.Stages.{endOf, fitsIn, boundsMade, spansAfter}
+use Rattle.stages.specs.Stages.{endOf, boundsMade, spansAfter}
 
 -- the channels of dependency rows are one more than the rows
 pub rows-count : (d : Dep) → d .count ≡ length (plainRows d) + 1
@@ -38,9 +37,6 @@ plain-end (kind.Rct r) = refl
 module _ (s v : Stage) (is : s ≡ v) where
   pub end-of : endOf (plain s) ≡ endIn v
   end-of = ap (λ x. endOf (plain x)) is ∙ plain-end v
-
-  pub fits-in : (n : ℕ) → leb (endIn v) n ≡ fitsIn (plain s) n
-  fits-in n = ap (λ x. leb x n) (sym end-of)
 
   pub made-by : (f : Shape) (bs : List Bounds) (r : Option SpanList) → MadeList r (allFit (boundsMade f (plain v) bs)) (spansAfter f (plain v) bs) → MadeList r (allFit (boundsMade f (plain s) bs)) (spansAfter f (plain s) bs)
   made-by f bs r h = subst (λ x. MadeList r (allFit (boundsMade f (plain x) bs)) (spansAfter f (plain x) bs)) (sym is) h

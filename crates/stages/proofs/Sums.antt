@@ -1,17 +1,13 @@
 -- Sums of ends of products, tap by tap.
 use mathlib.Core.List.{List, [], _∷_}
-use mathlib.Core.Path.{_≡_, refl, sym, ap, _∙_}
-use Prim.Native.Nat.{ℕ, zero, suc, _+_, _*_, _^_, _<_, _≤_}
+use mathlib.Core.Path.{_≡_, refl}
+use Prim.Native.Nat.{ℕ, zero, suc, _+_, _*_, _<_, _≤_}
 use native.Mathlib.Numerals.{add-one}
 use native.Mathlib.Omega.{arith}
 use lib.IntN.{ℤ, pos, _+ℤ_, _*ℤ_, *ℤ-zero}
 use lib.ListN.{length, getD, drop}
-use lib.Signed.{_≤ℤ_}
-use mir.Syntax.{w64}
-use mir.Val.{SFits, toZ, ofZ}
 use Rattle.std.proofs.shelf.Lists.{drop-all}
 use Rattle.std.proofs.shelf.Signed.{ints}
-use Rattle.std.specs.Numbers.{maxZ, minZ}
 use Rattle.sets.specs.declared.bounds.Bounds.{Bounds}
 use Rattle.stages.specs.Quotients.{endSum}
 use Rattle.stages.specs.Ranges.{at}

@@ -1,9 +1,9 @@
 -- What the colour transform and dependency rows do to spans: the least and the greatest of each formula over the old spans.
-use mathlib.Core.Bool.{Bool, cond, _&&_}
+use mathlib.Core.Bool.{cond, _&&_}
 use mathlib.Core.List.{List, [], _∷_, map}
 use Prim.Native.Nat.{ℕ, zero, suc, _+_, _-_, _^_}
 use lib.Dec.{eqb, ltb}
-use lib.IntN.{pos, _+ℤ_, _-ℤ_, _*ℤ_}
+use lib.IntN.{pos, _+ℤ_, _*ℤ_}
 use lib.ListN.{length, take, drop, getD}
 use Rattle.std.specs.Iters.{counting}
 use Rattle.sets.specs.declared.bounds.Bounds.{Bounds}

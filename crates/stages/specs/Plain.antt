@@ -1,6 +1,6 @@
 -- Stages by their words and numbers, as a recipe writes them, and the code's records seen so.
 -- All rules are stated over these.
-use mathlib.Core.List.{List, [], _∷_, map}
+use mathlib.Core.List.{List, map}
 use Prim.Native.Nat.{ℕ, _-_}
 use lib.IntN.{ℤ}
 use lib.ListN.{take}

@@ -1,10 +1,10 @@
 -- Bounds, and what is done with them. In these definitions a bound is any whole number; fits says where signed 32 bits end.
 use mathlib.Core.Bool.{Bool, true, _&&_}
 use mathlib.Core.List.{List, [], _∷_}
-use Prim.Native.Nat.{ℕ, _^_}
+use Prim.Native.Nat.{ℕ}
 use lib.IntN.{ℤ, pos, negsuc, _+ℤ_, _-ℤ_}
 use lib.ListN.{getD}
-use lib.Signed.{_≤ℤ_, leZ}
+use lib.Signed.{leZ}
 use Rattle.std.specs.Numbers.{maxZ, minZ}
 use Rattle.sets.specs.declared.bounds.Bounds.{Bounds}
 use Rattle.sets.specs.Ordered.{noBounds}

@@ -1,18 +1,21 @@
 -- What every kind of stage says: the channels it lists, where it fits, and its rule on spans.
-use mathlib.Core.Bool.{Bool, true, false, cond, _&&_}
+use mathlib.Core.Bool.{Bool, true, false, _&&_}
 use mathlib.Core.List.{List}
+use mathlib.Core.Path.{_≡_}
 use Prim.Native.Nat.{ℕ, _+_}
 use lib.Dec.{eqb, leb, ltb}
 use lib.ListN.{length}
 use Rattle.std.specs.declared.option.Option.{Option}
 use Rattle.std.specs.declared.option.Option.the-variants.{Some, None}
+use Rattle.std.specs.Results.{Cases}
 use Rattle.std.specs.declared.result.Result.{Result}
 use Rattle.std.specs.declared.result.Result.the-variants.{Ok, Err}
 use Rattle.sets.specs.declared.bounds.Bounds.{Bounds}
 use Rattle.sets.specs.declared.refusal.Refusal.{Refusal}
 use Rattle.sets.specs.declared.refusal.Refusal.the-variants.{BadShape, SpanCount, DoesNotFit, TooWide}
 use Rattle.sets.specs.declared.shape.Shape.{Shape}
-use Rattle.sets.specs.Sets.{inLimits}
+use Rattle.sets.specs.declared.span_list.SpanList.{SpanList}
+use Rattle.sets.specs.Sets.{inLimits, rowsOf}
 use Rattle.stages.specs.Channels.{rctAfter, rctMade, depAfter, depMade}
 use Rattle.stages.specs.Lifting.{liftAfter, liftMade}
 use Rattle.stages.specs.Plain.{Plain, lift, dep, rct}
@@ -56,6 +59,10 @@ unless false e rest = Some e
 -- the rule on spans is refused for a bad shape, a wrong number of spans, a stage that does not fit and a bound beyond 32 bits, in that order
 unfoldable pub spansRefused : Shape → Plain → List Bounds → Option Refusal
 spansRefused f s bs = unless (inLimits f) BadShape (unless (eqb (length bs) (f .channels)) SpanCount (unless (fitsIn s (f .channels)) DoesNotFit (unless (allFit (boundsMade f s bs)) TooWide None)))
+
+-- the spans bs where there is no refusal
+abbrev pub Ruled : Result SpanList Refusal → Option Refusal → List Bounds → Type 0
+Ruled r refused bs = Cases r (λ l. (refused ≡ None) × (rowsOf l ≡ bs)) (λ e. refused ≡ Some e)
 
 abbrev pub answered : Option Refusal → Result Unit Refusal
 answered None = Ok tt

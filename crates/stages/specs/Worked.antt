@@ -4,7 +4,6 @@ use mathlib.Core.Path.{_≡_}
 use Prim.Native.Nat.{ℕ}
 use lib.IntN.{ℤ, pos, negsuc}
 use Rattle.sets.specs.declared.bounds.Bounds.{Bounds}
-use Rattle.sets.specs.declared.shape.Shape.{Shape}
 use Rattle.stages.specs.declared.stage.Axis.{Axis}
 use Rattle.stages.specs.declared.stage.Axis.the-variants.{Time, Channel}
 use Rattle.stages.specs.declared.stage.Extension.{Extension}

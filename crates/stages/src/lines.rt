@@ -1,8 +1,8 @@
 ghost use mathlib.Core.Path.{_≡_};
-ghost use Prim.Native.Nat.{_^_, _≤_, _<_};
-ghost use lib.IntN.{pos, negℤ};
+ghost use Prim.Native.Nat.{_-_, _*_, _^_, _≤_, _<_};
+ghost use lib.IntN.{pos, negℤ, _-ℤ_};
 ghost use lib.Signed.{_≤ℤ_};
-ghost use Rattle.stages.specs.Lines.{firstIndex, indexCount, MirroredTo, mirror, nearest, extended};
+ghost use Rattle.stages.specs.Lines.{firstIndex, indexCount, MirroredTo, mirror, nearest};
 ghost use Rattle.stages.specs.Slots.{Usable, slotOf};
 use crate::line::Line;
 use crate::stage::Extension;
@@ -24,6 +24,14 @@ pub(crate) fn index_count(level: u32, place: usize, places: usize) -> usize
     (last + 1).saturating_sub(first_index(level, place))
 }
 
+// An index past the last of n, mirrored about the last.
+fn turned_back(n: usize, p: i64) -> i64
+    requires { ⌜ 2 ≤ n ⌝ ∗ ⌜ n ≤ 64 ⌝ ∗ ⌜ pos 0 ≤ℤ p ⌝ }
+    ensures { λ r. ⌜ r ≡ pos (2 * (n - 1)) -ℤ p ⌝ }
+{
+    2 * (n as i64 - 1) - p
+}
+
 fn mirrored(n: usize, z: i64) -> usize
     requires { ⌜ 2 ≤ n ⌝ ∗ ⌜ n ≤ 64 ⌝ ∗ ⌜ z ≤ℤ pos (2 ^ 40) ⌝ ∗ ⌜ negℤ (pos (2 ^ 40)) ≤ℤ z ⌝ }
     ensures is { λ r. ⌜ MirroredTo n z r ⌝ }
@@ -35,7 +43,7 @@ fn mirrored(n: usize, z: i64) -> usize
         if p < 0 {
             p = -p;
         } else if p > last {
-            p = 2 * last - p;
+            p = turned_back(n, p);
         } else {
             return p as usize;
         }

@@ -1,7 +1,5 @@
-ghost use mathlib.Core.Bool.{true, false};
+ghost use mathlib.Core.Bool.{true};
 ghost use mathlib.Core.Path.{_≡_};
-ghost use Prim.Native.Nat.{_^_};
-ghost use lib.IntN.{pos, negℤ};
 ghost use lib.Signed.{_≤ℤ_};
 ghost use Rattle.sets.specs.Sets.{boundsOf, rowsOf};
 ghost use Rattle.stages.specs.Ranges.{raised, lowered, hull, fits, at};

@@ -1,10 +1,8 @@
-use mathlib.Core.Bool.{true, false}
-use mathlib.Core.List.{[], _∷_, _++_, map}
-use mathlib.Core.Path.{_≡_, refl, sym, ap, _∙_}
+use mathlib.Core.List.{[], _∷_, _++_}
+use mathlib.Core.Path.{refl, sym, ap, _∙_}
 use Prim.Native.Nat.{_+_, _<_}
 use native.Mathlib.Omega.{arith}
 use lib.ListN.{length}
-use Rattle.std.specs.Iters.{counting}
 use Rattle.std.proofs.shelf.Counted.{length-map-counting, map-counting-more}
 use Rattle.sets.specs.Sets.{rowsOf}
 use Rattle.stages.proofs.Every.{every-more, every-false}

@@ -1,5 +1,4 @@
-use mathlib.Core.Path.{_≡_, _∙_, sym, subst}
-use lib.IntN.{ℤ, _*ℤ_}
+use mathlib.Core.Path.{_≡_, _∙_}
 use native.Mathlib.Omega.{arith}
 use borrow.Author.Needs.{needs}
 use mir.Val.{SFits, toZ, ofZ}

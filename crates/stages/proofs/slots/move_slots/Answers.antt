@@ -1,5 +1,5 @@
 use mathlib.Core.List.{map}
-use mathlib.Core.Path.{_≡_, sym, subst, ap, _∙_}
+use mathlib.Core.Path.{sym, subst}
 use Rattle.std.specs.Iters.{counting}
 use Rattle.sets.specs.Sets.{rowsOf}
 use Rattle.stages.specs.Lifting.{stepped, slotAfter}

@@ -6,7 +6,6 @@ use lib.ListN.{length}
 use Rattle.std.specs.Iters.{counting}
 use Rattle.std.proofs.shelf.Lists.{length-take-le}
 use Rattle.std.proofs.shelf.Tests.{cond-true, eq-eqb}
-use Rattle.sets.specs.declared.bounds.Bounds.{Bounds}
 use Rattle.sets.specs.Sets.{boundsOf, rowsOf}
 use Rattle.stages.specs.Lifting.{parityOf, sourceIndex, sourcesOf, slotAfter}
 use Rattle.stages.specs.Made.{MadeSpan, wideOf, between}

@@ -1,4 +1,3 @@
-use native.Mathlib.Omega.{arith}
 use borrow.Author.Needs.{needs}
 use Rattle.stages.specs.Plain.{plain}
 use Rattle.stages.proofs.Plains.{end-of, made-by}
