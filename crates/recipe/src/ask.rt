@@ -75,10 +75,16 @@ fn set_and_recipe(text: &[u8]) -> Result<Request, Fault>
     })
 }
 
+// Does nothing: its promise is the law of the format.
+fn requests_are_lawful()
+    ensures { λ _. ⌜ RequestLaws ⌝ }
+{}
+
 // Reads the text of a report: a SET line, and a recipe.
 pub fn request(text: &[u8]) -> Result<Request, Fault>
     ensures answer { λ r. ⌜ answered r ≡ requested (now (text .entry)) ⌝ }
     ensures law { λ _. ⌜ RequestLaws ⌝ }
 {
+    requests_are_lawful();
     set_and_recipe(text)
 }

@@ -23,6 +23,11 @@ use crate::parts::find;
 use crate::table::Recipe;
 use stages::stage::Stage;
 
+// Does nothing: its promise is the law of the format.
+fn recipes_are_lawful()
+    ensures { λ _. ⌜ ReadingLaws ⌝ }
+{}
+
 impl Recipe {
     // Refuses a stage that has no room, and then a line whose number of fields is wrong.
     fn holds(&self, line: &Line, sized: bool) -> Result<(), Fault>
@@ -150,6 +155,7 @@ impl Recipe {
         ensures answer { λ r. ⌜ Answers (reading (now (text .entry))) r (tableOf (now (self .exit))) ⌝ }
         ensures law { λ _. ⌜ ReadingLaws ⌝ }
     {
+        recipes_are_lawful();
         self.fill(text, 1)
     }
 }

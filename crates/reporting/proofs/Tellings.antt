@@ -24,7 +24,7 @@ use Rattle.stages.specs.Stages.{spansAfter, spansRefused}
 use Rattle.recipe.specs.Requests.{PlainRequest, requested}
 use Rattle.reporting.specs.declared.line.Line.{Line}
 use Rattle.reporting.specs.declared.line.Line.the-variants.{Span, Refused}
-use Rattle.reporting.specs.Laws.{Leads, stay, go, Tells, ReportLaw, start}
+use Rattle.reporting.specs.Laws.{Leads, stay, go, Tells, ReportLaws, start}
 use Rattle.reporting.specs.Lines.{channelLines, stageLines, requestLines, reportLines}
 
 -- a stage keeps the number of spans
@@ -121,6 +121,6 @@ tells q =
       whole = λ cs l. length-all (q .shape) n 0 (q .stages) (start q) cs long l;
     }
 
-pub report-law : (text : List ℕ) → ReportLaw text (reportLines text)
+pub report-laws : ReportLaws
 unfolding reportLines
-report-law text q e = subst (λ o. Tells q (requestLines o)) (sym e) (tells q)
+report-laws text q e = subst (λ o. Tells q (requestLines o)) (sym e) (tells q)

@@ -37,5 +37,6 @@ pub record Tells (q : PlainRequest) (lines : List Line) : Type 0 where
   pub ends : (k : ℕ) (cs : List Bounds) (s : Plain) (e : Refusal) (d : Line) → k < length (q .stages) → s ≡ getD (q .stages) k s → Leads (q .shape) (take k (q .stages)) (start q) cs → spansRefused (q .shape) s cs ≡ Some e → (getD lines (k * q .shape .channels) d ≡ Refused (numberOf e) k 0) × (length lines ≡ k * q .shape .channels + 1)
   pub whole : (cs : List Bounds) → Leads (q .shape) (q .stages) (start q) cs → length lines ≡ length (q .stages) * q .shape .channels
 
-abbrev pub ReportLaw : List ℕ → List Line → Type 0
-ReportLaw text lines = (q : PlainRequest) → requested text ≡ Ok q → Tells q lines
+-- what the report of any text says
+abbrev pub ReportLaws : Type 0
+ReportLaws = (text : List ℕ) (q : PlainRequest) → requested text ≡ Ok q → Tells q (reportLines text)
