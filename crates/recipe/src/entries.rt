@@ -34,6 +34,12 @@ impl Recipe {
     pub fn get(&self, k: usize) -> Option<Stage>
         ensures { λ r. ⌜ r ≡ nth (stagesOf (now (self .entry))) k ⌝ }
     {
+        self.stage_at(k)
+    }
+
+    fn stage_at(&self, k: usize) -> Option<Stage>
+        ensures { λ r. ⌜ r ≡ nth (stagesOf (now (self .entry))) k ⌝ }
+    {
         if k >= self.len {
             return None;
         }

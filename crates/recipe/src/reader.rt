@@ -27,6 +27,13 @@ impl<'a> Line<'a> {
     pub fn field(&self, k: usize) -> Field<'a>
         ensures { λ r. ⌜ Shows r (at (fieldsOf (now (self .entry) .bytes .now)) k) ⌝ }
     {
+        self.part_at(k)
+    }
+
+    // The part behind `k` commas.
+    fn part_at(&self, k: usize) -> Field<'a>
+        ensures { λ r. ⌜ Shows r (at (fieldsOf (now (self .entry) .bytes .now)) k) ⌝ }
+    {
         let mut rest = self.bytes;
         for _i in 0..k {
             let end = find(rest, b',');

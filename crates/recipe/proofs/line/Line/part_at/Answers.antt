@@ -5,7 +5,7 @@ use lib.ListN.{getD, length}
 use Rattle.std.proofs.shelf.Lists.{take-rest, length-drop}
 use Rattle.recipe.specs.Fields.{fieldsOf, cut, Shows}
 use Rattle.recipe.proofs.Cuts.{Free, drop-more-cut, getD-cut, getD-cut-past}
-use Rattle.recipe.proofs.line.Line.field.Needs as need
+use Rattle.recipe.proofs.line.Line.part_at.Needs as need
 
 pub returns-then-end-rest : need.returns-then-end-rest
 unfolding fieldsOf

@@ -4,7 +4,7 @@ use Rattle.std.specs.declared.option.Option.the-variants.{Some}
 use Rattle.std.proofs.shelf.Lists.{getD-take, length-take}
 use Rattle.std.proofs.shelf.Maps.{nth-getD, nth-past}
 use Rattle.recipe.specs.Tables.{stagesOf}
-use Rattle.recipe.proofs.table.Recipe.get.Needs as need
+use Rattle.recipe.proofs.table.Recipe.stage_at.Needs as need
 
 pub returns-then-k-self : need.returns-then-k-self
 returns-then-k-self c = sym (nth-past (stagesOf (c .args .self .now)) (c .args .k) (simp length-take (omega arith)))
