@@ -20,7 +20,7 @@ use Rattle.recipe.specs.Fields.{fieldsOf}
 use Rattle.recipe.specs.Grammar.{atHand, faultAt, lineFault, taken}
 use Rattle.stages.specs.Plain.{Plain, plain, lift as a-lift, dep as a-dep, rct as an-rct}
 use Rattle.recipe.specs.Requests.{shapeFrom, spanFrom}
-use Rattle.recipe.specs.Rules.{Form, same, field, hasFields, firstWrong, rulesOf}
+use Rattle.recipe.specs.Rules.{Form, Rule, same, field, hasFields, firstWrong, rulesOf}
 
 -- a value whose magnitude is cut off at ten thousand million
 abbrev pub capped : ℤ → ℤ
@@ -46,6 +46,14 @@ pub record Counted (least greatest : ℕ) (z : ℤ) (n : ℕ) : Type 0 where
 
 abbrev pub fieldsIn : Line → List (List ℕ)
 fieldsIn l = fieldsOf (l .bytes .now)
+
+-- the first field of a line, from field k on, that breaks its rule
+abbrev pub wrongFrom : Line → ℕ → List Rule → Option Fault
+wrongFrom l k rs = firstWrong (l .number) (fieldsIn l) k rs
+
+-- the first field behind its word that breaks the rules of a form
+abbrev pub wrongAs : Form → Line → Option Fault
+wrongAs g l = wrongFrom l 1 (rulesOf g (fieldsIn l))
 
 -- the fault of a line that must begin with the word w and have the form g
 abbrev pub headed : List ℕ → Form → ℕ → List (List ℕ) → Option Fault

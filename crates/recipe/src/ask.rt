@@ -1,10 +1,10 @@
 ghost use mathlib.Core.Path.{_≡_};
 ghost use lib.Chars.{codes};
-ghost use Rattle.recipe.specs.Promises.{Judged, Sets, fieldsIn, headed};
+ghost use Rattle.recipe.specs.Promises.{Judged, Sets, fieldsIn, headed, wrongAs};
 ghost use Rattle.recipe.specs.Replies.{answered};
 ghost use Rattle.recipe.specs.RequestLaws.{RequestLaws};
 ghost use Rattle.recipe.specs.Requests.{requested};
-ghost use Rattle.recipe.specs.Rules.{set, rulesOf, firstWrong};
+ghost use Rattle.recipe.specs.Rules.{set};
 use crate::asked::Asked;
 use crate::fault::Cause;
 use crate::fault::Fault;
@@ -17,7 +17,7 @@ use sets::span::Span;
 
 // The fields of a SET line.
 fn set_line(line: &Line) -> Result<Asked, Fault>
-    ensures { λ r. ⌜ Judged (firstWrong (now (line .entry) .number) (fieldsIn (now (line .entry))) 1 (rulesOf set (fieldsIn (now (line .entry))))) (Sets (fieldsIn (now (line .entry)))) r ⌝ }
+    ensures { λ r. ⌜ Judged (wrongAs set (now (line .entry))) (Sets (fieldsIn (now (line .entry)))) r ⌝ }
 {
     let channels = line.natural(1, 1, 64)?;
     let samples = line.natural(2, 1, 1048576)?;

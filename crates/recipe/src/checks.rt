@@ -7,8 +7,8 @@ ghost use Rattle.std.specs.declared.option.Option.the-variants.{None};
 ghost use Rattle.recipe.specs.declared.fault.Cause.the-variants.{FieldCount, WordDue};
 ghost use Rattle.recipe.specs.Grammar.{faultAt};
 ghost use Rattle.recipe.specs.Fields.{isWord};
-ghost use Rattle.recipe.specs.Promises.{Judged, Held, Counted, fieldsIn};
-ghost use Rattle.recipe.specs.Rules.{between, listed, same, firstWrong, field as at, number as numberAt};
+ghost use Rattle.recipe.specs.Promises.{Judged, Held, Counted, fieldsIn, wrongFrom};
+ghost use Rattle.recipe.specs.Rules.{between, listed, same, field as at, number as numberAt};
 use crate::fault::Cause;
 use crate::fault::Fault;
 use crate::field::Field;
@@ -56,7 +56,7 @@ impl<'a> Line<'a> {
     // The number in field `k`, if it is one between the limits.
     pub(crate) fn number(&self, k: usize, least: i32, greatest: i32) -> Result<i32, Fault>
         requires { ⌜ k < 16 ⌝ }
-        ensures { λ r. ⌜ Judged (firstWrong (now (self .entry) .number) (fieldsIn (now (self .entry))) k (between least greatest ∷ [])) (Held least greatest (numberAt (fieldsIn (now (self .entry))) k)) r ⌝ }
+        ensures { λ r. ⌜ Judged (wrongFrom (now (self .entry)) k (between least greatest ∷ [])) (Held least greatest (numberAt (fieldsIn (now (self .entry))) k)) r ⌝ }
     {
         let Field::Number(digits) = self.field(k) else {
             return Err(self.fault(Cause::NotListed, k));
@@ -70,7 +70,7 @@ impl<'a> Line<'a> {
     // The number in field `k`, if it is one from `least` to `greatest`.
     pub(crate) fn natural(&self, k: usize, least: usize, greatest: usize) -> Result<usize, Fault>
         requires { ⌜ k < 16 ⌝ ∗ ⌜ least < 2 ^ 31 ⌝ ∗ ⌜ greatest < 2 ^ 31 ⌝ }
-        ensures { λ r. ⌜ Judged (firstWrong (now (self .entry) .number) (fieldsIn (now (self .entry))) k (between (pos least) (pos greatest) ∷ [])) (Counted least greatest (numberAt (fieldsIn (now (self .entry))) k)) r ⌝ }
+        ensures { λ r. ⌜ Judged (wrongFrom (now (self .entry)) k (between (pos least) (pos greatest) ∷ [])) (Counted least greatest (numberAt (fieldsIn (now (self .entry))) k)) r ⌝ }
     {
         let value = self.number(k, least as i32, greatest as i32)?;
         Ok(value as usize)
@@ -79,7 +79,7 @@ impl<'a> Line<'a> {
     // Whether field `k` is the first of two words: it must be one of them.
     pub(crate) fn choice(&self, k: usize, first: &[u8], second: &[u8]) -> Result<bool, Fault>
         requires { ⌜ k < 16 ⌝ }
-        ensures { λ r. ⌜ Judged (firstWrong (now (self .entry) .number) (fieldsIn (now (self .entry))) k (listed (now (first .entry) ∷ now (second .entry) ∷ []) ∷ [])) (λ b. b ≡ same (at (fieldsIn (now (self .entry))) k) (now (first .entry))) r ⌝ }
+        ensures { λ r. ⌜ Judged (wrongFrom (now (self .entry)) k (listed (now (first .entry) ∷ now (second .entry) ∷ []) ∷ [])) (λ b. b ≡ same (at (fieldsIn (now (self .entry))) k) (now (first .entry))) r ⌝ }
     {
         let Field::Word(word) = self.field(k) else {
             return Err(self.fault(Cause::NotListed, k));

@@ -11,8 +11,8 @@ ghost use Rattle.stages.specs.Channels.{halfOf};
 ghost use Rattle.stages.specs.Plain.{tapsOf};
 ghost use Rattle.recipe.specs.Grammar.{natural, numbers, liftFrom, parityFrom, stepFrom, rowFrom};
 ghost use Rattle.stages.specs.Plain.{plainStep, plainRow, lift as a-lift, dep as a-dep, rct as an-rct};
-ghost use Rattle.recipe.specs.Promises.{Judged, Begins, fieldsIn, headed};
-ghost use Rattle.recipe.specs.Rules.{lift, step, dep, row, rct, tapRule, rulesOf, firstWrong};
+ghost use Rattle.recipe.specs.Promises.{Judged, Begins, fieldsIn, headed, wrongAs, wrongFrom};
+ghost use Rattle.recipe.specs.Rules.{lift, step, dep, row, rct, tapRule};
 use crate::begun::Begun;
 use crate::fault::Fault;
 use crate::line::Line;
@@ -29,7 +29,7 @@ use stages::stage::Step;
 // The numbers of the `n` fields from field `from` on, as taps.
 fn taps(line: &Line, from: usize, n: usize) -> Result<[i16; 8], Fault>
     requires { ⌜ from ≤ 4 ⌝ ∗ ⌜ n ≤ 8 ⌝ }
-    ensures { λ r. ⌜ Judged (firstWrong (now (line .entry) .number) (fieldsIn (now (line .entry))) from (replicate n tapRule)) (λ ts. (take n ts ≡ numbers (fieldsIn (now (line .entry))) from n) × (length ts ≡ 8)) r ⌝ }
+    ensures { λ r. ⌜ Judged (wrongFrom (now (line .entry)) from (replicate n tapRule)) (λ ts. (take n ts ≡ numbers (fieldsIn (now (line .entry))) from n) × (length ts ≡ 8)) r ⌝ }
 {
     let mut found: [i16; 8] = [0; 8];
     for i in 0..n {
@@ -79,7 +79,7 @@ fn parity(number: usize) -> Parity
 
 // A LIFT line; its steps are still to come.
 pub(crate) fn lift_line(line: &Line) -> Result<Begun, Fault>
-    ensures { λ r. ⌜ Judged (firstWrong (now (line .entry) .number) (fieldsIn (now (line .entry))) 1 (rulesOf lift (fieldsIn (now (line .entry))))) (Begins (a-lift (liftFrom (fieldsIn (now (line .entry)))) []) (natural (fieldsIn (now (line .entry))) 7)) r ⌝ }
+    ensures { λ r. ⌜ Judged (wrongAs lift (now (line .entry))) (Begins (a-lift (liftFrom (fieldsIn (now (line .entry)))) []) (natural (fieldsIn (now (line .entry))) 7)) r ⌝ }
 {
     let time = line.choice(1, b"T", b"C")?;
     let first = line.natural(2, 0, 63)?;
@@ -110,7 +110,7 @@ pub(crate) fn lift_line(line: &Line) -> Result<Begun, Fault>
 
 // A DEP line; its rows are still to come.
 pub(crate) fn dep_line(line: &Line) -> Result<Begun, Fault>
-    ensures { λ r. ⌜ Judged (firstWrong (now (line .entry) .number) (fieldsIn (now (line .entry))) 1 (rulesOf dep (fieldsIn (now (line .entry))))) (Begins (a-dep (natural (fieldsIn (now (line .entry))) 1) []) (natural (fieldsIn (now (line .entry))) 2 - 1)) r ⌝ }
+    ensures { λ r. ⌜ Judged (wrongAs dep (now (line .entry))) (Begins (a-dep (natural (fieldsIn (now (line .entry))) 1) []) (natural (fieldsIn (now (line .entry))) 2 - 1)) r ⌝ }
 {
     let first = line.natural(1, 0, 63)?;
     let greatest = if first < 56 { 8 } else { 64 - first };
@@ -128,7 +128,7 @@ pub(crate) fn dep_line(line: &Line) -> Result<Begun, Fault>
 
 // An RCT line, which is a stage by itself.
 pub(crate) fn rct_line(line: &Line) -> Result<Begun, Fault>
-    ensures { λ r. ⌜ Judged (firstWrong (now (line .entry) .number) (fieldsIn (now (line .entry))) 1 (rulesOf rct (fieldsIn (now (line .entry))))) (Begins (an-rct (natural (fieldsIn (now (line .entry))) 1)) 0) r ⌝ }
+    ensures { λ r. ⌜ Judged (wrongAs rct (now (line .entry))) (Begins (an-rct (natural (fieldsIn (now (line .entry))) 1)) 0) r ⌝ }
 {
     let first = line.natural(1, 0, 61)?;
     Ok(Begun {
@@ -140,7 +140,7 @@ pub(crate) fn rct_line(line: &Line) -> Result<Begun, Fault>
 // The fields of a STEP line with `n` taps.
 fn step_line(line: &Line, n: usize) -> Result<Step, Fault>
     requires { ⌜ n ≤ 8 ⌝ ∗ ⌜ length (fieldsIn (now line)) ≡ n + 4 ⌝ }
-    ensures { λ r. ⌜ Judged (firstWrong (now (line .entry) .number) (fieldsIn (now (line .entry))) 1 (rulesOf step (fieldsIn (now (line .entry))))) (λ s. plainStep s ≡ stepFrom (fieldsIn (now (line .entry)))) r ⌝ }
+    ensures { λ r. ⌜ Judged (wrongAs step (now (line .entry))) (λ s. plainStep s ≡ stepFrom (fieldsIn (now (line .entry)))) r ⌝ }
 {
     let offset = line.number(1, -8, 8)?;
     let exponent = line.natural(2, 0, 16)?;
@@ -180,7 +180,7 @@ fn half(exponent: usize) -> i32
 // The fields of the ROW line of row `i`, from 1.
 fn row_line(line: &Line, i: usize) -> Result<Quotient, Fault>
     requires { ⌜ i ≤ 7 ⌝ ∗ ⌜ length (fieldsIn (now line)) ≡ i + 2 ⌝ }
-    ensures { λ r. ⌜ Judged (firstWrong (now (line .entry) .number) (fieldsIn (now (line .entry))) 1 (rulesOf (row i) (fieldsIn (now (line .entry))))) (λ q. plainRow q ≡ rowFrom (fieldsIn (now (line .entry)))) r ⌝ }
+    ensures { λ r. ⌜ Judged (wrongAs (row i) (now (line .entry))) (λ q. plainRow q ≡ rowFrom (fieldsIn (now (line .entry)))) r ⌝ }
 {
     let exponent = line.natural(1, 0, 16)?;
     let taps = taps(line, 2, i)?;

@@ -37,8 +37,11 @@ stageLines f k [] bs = []
 stageLines f k (s ∷ ss) bs = elim (spansRefused f s bs) [ None ↦ channelLines k 0 (spansAfter f s bs) ++ stageLines f (k + 1) ss (spansAfter f s bs) | Some e ↦ Refused (numberOf e) k 0 ∷ [] ]
 
 -- every channel begins with the one span of the SET line
+abbrev pub askedLines : PlainRequest → List Line
+askedLines q = stageLines (q .shape) 0 (q .stages) (replicate (q .shape .channels) (q .span))
+
 abbrev pub requestLines : Result PlainRequest Fault → List Line
-requestLines (Ok q) = stageLines (q .shape) 0 (q .stages) (replicate (q .shape .channels) (q .span))
+requestLines (Ok q) = askedLines q
 requestLines (Err f) = Refused (causeNumber (f .cause)) (f .line) (f .field) ∷ []
 
 -- the report of a text

@@ -7,10 +7,9 @@ ghost use Rattle.std.specs.Of.Vec.{vec-items};
 ghost use Rattle.std.specs.Results.{isOk};
 ghost use Rattle.std.specs.Vec.{made};
 ghost use Rattle.sets.specs.Sets.{rowsOf, boundsOf, inLimits};
-ghost use Rattle.recipe.specs.Requests.{requested};
-ghost use Rattle.recipe.specs.Tables.{tableOf};
+ghost use Rattle.recipe.specs.Requests.{plainRequest};
 ghost use Rattle.reporting.specs.Laws.{ReportLaws};
-ghost use Rattle.reporting.specs.Lines.{channelLines, stageLines, reportLines};
+ghost use Rattle.reporting.specs.Lines.{askedLines, channelLines, reportLines};
 use crate::line::Line;
 use recipe::ask::request;
 use recipe::request::Request;
@@ -55,7 +54,7 @@ fn add_channels(lines: &mut Vec<Line>, stage: usize, spans: &SpanList) -> Result
 // The lines of all stages, up to the first that is refused.
 fn add_stages(lines: &mut Vec<Line>, request: &Request) -> Result<(), AllocError>
     requires { ⌜ inLimits (now request .shape) ≡ true ⌝ }
-    ensures { λ r. ⌜ (isOk r ≡ true → vec-items (now (lines .exit)) ≡ vec-items (now (lines .entry)) ++ stageLines (now (request .entry) .shape) 0 (tableOf (now (request .entry) .recipe)) (replicate (now (request .entry) .shape .channels) (boundsOf (now (request .entry) .span)))) ⌝ }
+    ensures { λ r. ⌜ (isOk r ≡ true → vec-items (now (lines .exit)) ≡ vec-items (now (lines .entry)) ++ askedLines (plainRequest (now (request .entry)))) ⌝ }
 {
     let mut spans = one_for_each(&request.span, request.shape.channels);
     for k in 0..request.recipe.len() {

@@ -1,9 +1,9 @@
 -- What every kind of stage says: the channels it lists, where it fits, and its rule on spans.
-use mathlib.Core.Bool.{Bool, true, false, _&&_}
+use mathlib.Core.Bool.{Bool, true, false}
 use mathlib.Core.List.{List}
 use mathlib.Core.Path.{_≡_}
 use Prim.Native.Nat.{ℕ, _+_}
-use lib.Dec.{eqb, leb, ltb}
+use lib.Dec.{eqb, leb}
 use lib.ListN.{length}
 use Rattle.std.specs.declared.option.Option.{Option}
 use Rattle.std.specs.declared.option.Option.the-variants.{Some, None}
@@ -21,19 +21,11 @@ use Rattle.stages.specs.Lifting.{liftAfter, liftMade}
 use Rattle.stages.specs.Plain.{Plain, lift, dep, rct}
 use Rattle.stages.specs.Ranges.{allFit}
 
--- a stage lists the channels from firstOf on, before endOf
-abbrev pub firstOf : Plain → ℕ
-firstOf (lift l ss) = l .first
-firstOf (dep first rows) = first
-firstOf (rct first) = first
-
+-- a stage lists the channels from its first one on, before endOf
 abbrev pub endOf : Plain → ℕ
 endOf (lift l ss) = l .first + l .count
 endOf (dep first rows) = first + (length rows + 1)
 endOf (rct first) = first + 3
-
-abbrev pub lists : Plain → ℕ → Bool
-lists s c = leb (firstOf s) c && ltb c (endOf s)
 
 -- it fits when all its channels are below C
 abbrev pub fitsIn : Plain → ℕ → Bool
@@ -72,3 +64,6 @@ answered (Some e) = Err e
 abbrev pub spansLeft : Shape → Plain → List Bounds → Option Refusal → List Bounds
 spansLeft f s bs None = spansAfter f s bs
 spansLeft f s bs (Some e) = bs
+
+abbrev pub spansThen : Shape → Plain → List Bounds → List Bounds
+spansThen f s bs = spansLeft f s bs (spansRefused f s bs)

@@ -5,7 +5,7 @@ ghost use Rattle.sets.specs.Sets.{rowsOf};
 ghost use Rattle.stages.specs.Made.{MadeList};
 ghost use Rattle.stages.specs.Plain.{plain};
 ghost use Rattle.stages.specs.Ranges.{allFit};
-ghost use Rattle.stages.specs.Stages.{endOf, fitsIn, boundsMade, spansAfter, spansRefused, Ruled, answered, spansLeft};
+ghost use Rattle.stages.specs.Stages.{endOf, fitsIn, boundsMade, spansAfter, spansRefused, Ruled, answered, spansThen};
 use crate::dep_spans::dep_spans;
 use crate::lift_spans::lift_spans;
 use crate::rct_spans::rct_spans;
@@ -68,7 +68,7 @@ impl Stage {
     // Refused for a bad shape, a wrong number of spans, a stage that does not fit, or a bound beyond 32 bits; then the list stays.
     pub fn spans(&self, shape: &Shape, spans: &mut SpanList) -> Result<(), Refusal>
         ensures answer { λ r. ⌜ r ≡ answered (spansRefused (now (shape .entry)) (plain (now (self .entry))) (rowsOf (now (spans .entry)))) ⌝ }
-        ensures after { λ _. ⌜ rowsOf (now (spans .exit)) ≡ spansLeft (now (shape .entry)) (plain (now (self .entry))) (rowsOf (now (spans .entry))) (spansRefused (now (shape .entry)) (plain (now (self .entry))) (rowsOf (now (spans .entry)))) ⌝ }
+        ensures after { λ _. ⌜ rowsOf (now (spans .exit)) ≡ spansThen (now (shape .entry)) (plain (now (self .entry))) (rowsOf (now (spans .entry))) ⌝ }
     {
         match self.after(shape, spans) {
             Ok(after) => {
