@@ -1,11 +1,12 @@
 #!/usr/bin/env python3
-"""An independent model of the report, written from docs/ alone: plain Python on unlimited integers.
+"""A second program for the report: plain Python on unlimited integers, to compare the proved one with.
 
     tests/report_model.py < TEXT          prints what the program report prints for TEXT
     tests/report_model.py --cases DIR     writes DIR/stdin and DIR/stdout for the crate report_cases
     tests/report_model.py --compare PROGRAM [COUNT [SEED]]   runs PROGRAM on COUNT random texts and compares
 
-It shares no code with the program, and its expected values come from the rules worked here.
+It shares no code with the program and does not read its output: expected values come from the rules as they
+are worked here. Its author also wrote the definitions in specs/, so a rule that was misread may be wrong in both.
 """
 import random
 import re
