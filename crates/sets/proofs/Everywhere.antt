@@ -1,6 +1,6 @@
 -- Tests at each number below a bound, and the test of an area against its spans.
 use Rattle.std.proofs.Common.{◌≡◌, ℕ, zero, suc, ◌+◌, ◌*◌, ◌<◌, ◌≤◌, Bool, true, false, ◌&&◌, List, length, ℤ, pos, Decides, refl, ap, inl, inr, mul-le-mul_right, suc-mul, add-one, arith}
-use lib.Signed.{le_z}
+use Rattle.std.specs.Int.Signed.{le_z}
 use Rattle.std.specs.List.{between}
 use Rattle.std.proofs.lemmas.List.Edits.{length-between, get_or-between}
 use Rattle.std.proofs.lemmas.Int.{ints}

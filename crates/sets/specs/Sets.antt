@@ -1,5 +1,5 @@
 -- Shapes with their limits, and what a span and a list of spans hold.
-use Rattle.std.specs.Prelude.{ℕ, Bool, ◌&&◌, List, take, nat_le}
+use Rattle.std.specs.Prelude.{Bool, ◌&&◌, List, take, nat_le}
 use Rattle.sets.specs.declared.bounds.Bounds.{Bounds}
 use Rattle.sets.specs.declared.shape.Shape.{Shape}
 use Rattle.sets.specs.declared.span.Span.{Span}

@@ -1,4 +1,6 @@
 // Sets of room impulse responses: their shapes, the spans of their channels, and why a call is refused.
+#![tactic(auto)]
+
 mod areas;
 pub mod bounds;
 mod filling;

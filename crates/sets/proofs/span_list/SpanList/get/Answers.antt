@@ -1,8 +1,7 @@
-use Rattle.std.proofs.Common.{◌≡◌, ◌<◌, length, get_or, take, sym, ap, ◌∙◌, arith, w32, SFits, rules}
+use Rattle.std.proofs.Common.{◌<◌, get_or, sym, arith, w32, SFits, rules}
 use Rattle.std.proofs.lemmas.List.{get_or-take, length-take}
 use Rattle.std.proofs.lemmas.Int.{to_z-of_z}
 use Rattle.sets.specs.Ordered.{no_bounds}
-use Rattle.sets.specs.Sets.{bounds_of, rows_of}
 use Rattle.sets.proofs.span_list.SpanList.get.Goals as goal
 
 pub returns : goal.returns

@@ -6,13 +6,13 @@ use Rattle.sets.specs.Sets.{rows_of}
 use Rattle.sets.proofs.Everywhere.{channel_holds, channel_part, channel-ends, every-of-part, within-each, within-fails}
 use Rattle.sets.proofs.span_list.SpanList.hold.Goals as goal
 
-pub offset-bounds-area-from : goal.offset-bounds-area-from
-offset-bounds-area-from c =
+pub offset_bounds-area-from : goal.offset_bounds-area-from
+offset_bounds-area-from c =
     let ends = channel-ends c.args.shape.now c.loop-c.c c.loop-c-test.true in
     search rules
 
-pub slice-bounds-hold-end : goal.slice-bounds-hold-end
-slice-bounds-hold-end c =
+pub slice_bounds-hold-end : goal.slice_bounds-hold-end
+slice_bounds-hold-end c =
     let ends = channel-ends c.args.shape.now c.loop-c.c c.loop-c-test.true in
     search rules
 

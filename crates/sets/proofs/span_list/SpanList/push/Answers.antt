@@ -1,4 +1,4 @@
-use Rattle.std.proofs.Common.{◌≡◌, ◌<◌, ltb, length, take, pos, negsuc, ◌≤ℤ◌, arith, length-set, w32, SFits, rules}
+use Rattle.std.proofs.Common.{◌<◌, length, take, pos, negsuc, ◌≤ℤ◌, arith, length-set, w32, SFits, rules}
 use Rattle.std.proofs.lemmas.List.{length-take, take_more_set}
 use Rattle.std.proofs.lemmas.Int.{ints, to_z-of_z}
 use Rattle.std.proofs.lemmas.Bool.{cond_below}
@@ -6,8 +6,8 @@ use Rattle.sets.specs.declared.bounds.Bounds.{Bounds}
 use Rattle.sets.proofs.Rows.{each_row_more}
 use Rattle.sets.proofs.span_list.SpanList.push.Goals as goal
 
-pub invariant-of-self : goal.invariant-of-self
-invariant-of-self c =
+pub invariant_of-self : goal.invariant_of-self
+invariant_of-self c =
     let list = c.args.self.now in
     let low : SFits w32 c.args.span.least = search rules in
     let high : SFits w32 c.args.span.greatest = search rules in
@@ -15,7 +15,7 @@ invariant-of-self c =
     let ordered = each_row_more (λ (b : Bounds). b.least ≤ℤ b.greatest) list.rows list.len _ room list.ordered (simp to_z-of_z c.args.span.ordered) in
     let below = each_row_more (λ (b : Bounds). negsuc 2147483647 ≤ℤ b.least) list.rows list.len _ room list.low (omega (arith, ints)) in
     let above = each_row_more (λ (b : Bounds). b.greatest ≤ℤ pos 2147483647) list.rows list.len _ room list.high (omega (arith, ints)) in
-    (simp length-set list.full, (omega arith, (ordered, (below, (above, tt)))))
+    record { full = simp length-set list.full; short = omega arith; ordered = ordered; low = below; high = above }
 
 pub returns : goal.returns
 returns c =
