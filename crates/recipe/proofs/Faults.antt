@@ -1,6 +1,6 @@
 -- What is wrong with a field, and the first field that is.
 use Rattle.std.proofs.Common.{◌≡◌, ℕ, ◌+◌, Bool, true, false, cond, ◌&&◌, List, [], ◌∷◌, drop, ℤ, Some, None, Err, Decides, Option, Result, sym, refl, ap, ◌∙◌, subst, inl, inr, arith, Bor, rules}
-use lib.Signed.{le_z}
+use Rattle.std.specs.Int.Signed.{le_z}
 use Rattle.std.specs.Cmp.Lexicographic.{Matches}
 use Rattle.std.proofs.lemmas.Slice.Eq.{slice_eq-Decides, compares_Decides}
 use Rattle.std.proofs.lemmas.Int.{ints}

@@ -1,6 +1,6 @@
 -- The lines of a report by their places.
 use Rattle.std.proofs.Common.{◌≡◌, ℕ, zero, suc, ◌+◌, ◌*◌, ◌<◌, List, [], ◌∷◌, ◌++◌, length, get_or, take, replicate, Some, None, Ok, Option, sym, refl, ap, ◌∙◌, subst, add-zero, suc-mul, zero-add, zero-mul, add-one, arith, length-append}
-use lib.ListN.{length-replicate}
+use Rattle.std.proofs.lemmas.List.{length-replicate}
 use Rattle.std.proofs.lemmas.List.FromFn.{length-map-range_with_len}
 use Rattle.std.proofs.lemmas.List.{get_or_append_left, get_or-append-add}
 use Rattle.sets.specs.declared.bounds.Bounds.{Bounds}

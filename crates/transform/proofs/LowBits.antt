@@ -1,6 +1,6 @@
 -- The low 32 bits of a number are the number wrapped.
 use Rattle.std.proofs.Common.{◌≡◌, suc, ◌-◌, ◌%◌, ◌^◌, ℤ, pos, negsuc, ap, ◌∙◌, arith, w32, w64, SFits, to_z, of_z}
-use lib.Bits.{bit_and}
+use Rattle.std.specs.Int.Bits.{bit_and}
 use Rattle.std.proofs.lemmas.Nat.{and_mask}
 use Rattle.std.proofs.lemmas.Int.{ints}
 use Rattle.std.specs.Int.{int_wrap}
