@@ -1,5 +1,5 @@
 -- Floors: what they are, and that they keep bounds and order.
-use Rattle.std.proofs.Common.{◌≡◌, ℕ, zero, suc, ◌+◌, ◌*◌, ◌/◌, ◌%◌, ◌^◌, ◌<◌, ◌≤◌, ℤ, pos, negsuc, ◌+ℤ◌, ◌*ℤ◌, neg_ℤ, ◌≤ℤ◌, ◌<ℤ◌, mod-lt, add-mul, arith}
+use Rattle.std.proofs.Common.{◌≡◌, ℕ, zero, suc, ◌*◌, ◌/◌, ◌%◌, ◌^◌, ◌<◌, ◌≤◌, ℤ, pos, negsuc, ◌+ℤ◌, ◌*ℤ◌, neg_ℤ, ◌≤ℤ◌, ◌<ℤ◌, mod-lt, add-mul, arith}
 use Rattle.std.proofs.lemmas.Nat.{shr_le, shr_split, le-div, pow_pos}
 use Rattle.std.proofs.lemmas.Int.{ints}
 use Rattle.stages.specs.Floors.{floor_over, IsFloor}

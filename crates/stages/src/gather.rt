@@ -9,8 +9,8 @@ use sets::span_list::SpanList;
 // The rows from `first` on, so many of them; none where a row cannot be made.
 pub(crate) fn gathered<R: Rule>(rule: &R, first: usize, count: usize) -> Option<SpanList>
     requires small { (count ≤ 64) × (first ≤ 64) }
-    requires within { (i : ℕ) → first ≤ i → i < first + count → within rule.now i }
-    ensures { MadeList result (every (passes rule.now) (range_with_len first count)) (map (after rule.now) (range_with_len first count)) }
+    requires within { (i : ℕ) → first ≤ i → i < first + count → R.within rule.now i }
+    ensures { MadeList result (every (R.passes rule.now) (range_with_len first count)) (map (R.after rule.now) (range_with_len first count)) }
 {
     let mut rows = SpanList::new();
     for k in 0..count {
@@ -25,9 +25,9 @@ pub(crate) fn gathered<R: Rule>(rule: &R, first: usize, count: usize) -> Option<
 // The same for a rule that can make every row.
 pub(crate) fn listed<R: Rule>(rule: &R, first: usize, count: usize) -> SpanList
     requires small { (count ≤ 64) × (first ≤ 64) }
-    requires within { (i : ℕ) → first ≤ i → i < first + count → within rule.now i }
-    requires sure { (i : ℕ) → passes rule.now i ≡ true }
-    ensures { rows_of result ≡ map (after rule.now) (range_with_len first count) }
+    requires within { (i : ℕ) → first ≤ i → i < first + count → R.within rule.now i }
+    requires sure { (i : ℕ) → R.passes rule.now i ≡ true }
+    ensures { rows_of result ≡ map (R.after rule.now) (range_with_len first count) }
 {
     let Some(rows) = gathered(rule, first, count) else {
         return SpanList::new();

@@ -1,4 +1,6 @@
 // The kinds of stage: lifting, the reversible colour transform, and dependency rows.
+#![tactic(auto)]
+
 mod dep_spans;
 mod floor;
 mod gather;

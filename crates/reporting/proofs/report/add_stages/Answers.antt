@@ -21,7 +21,7 @@ loop-k-preserved c =
     let s = plain c.in-Some.stage in
     let bs = rows_of c.loop-k.spans in
     let found = table_at q.recipe k c.in-Some.stage (plain c.in-Some.stage) (sym c.in-Some.ensures) in
-    let fine = refused_none _ _ (sym c.spans.ensures.answer ∙ c.in-default-spans.is) in
+    let fine = refused_none _ _ (sym c.spans.ensures.answer ∙ c.in_default-spans.is) in
     let after = left_after q.shape s bs _ fine c.spans.ensures.after in
     ap (λ l. l ++ stage_lines q.shape (k + 1) (drop (k + 1) (table_of q.recipe)) (rows_of c.spans.new.spans)) (c.in-ok-add-channels.ensures refl)
     ∙ append_assoc (vec_items c.loop-k.lines) _ _
@@ -50,4 +50,4 @@ returns c =
     λ _. sym (append-nil (vec_items c.loop-k.lines)) ∙ ap (λ l. vec_items c.loop-k.lines ++ stage_lines q.shape k l (rows_of c.loop-k.spans)) (sym (drop_all k (table_of q.recipe) (omega (arith, length-map (stages_of q.recipe) plain)))) ∙ c.loop-k.invariant
 
 pub unreachable-requires : goal.unreachable-requires
-unreachable-requires c = nth_inside (stages_of c.args.request.now.recipe) c.loop-k.k (omega arith) (sym c.get.ensures ∙ c.in-default.is)
+unreachable-requires c = nth_inside (stages_of c.args.request.now.recipe) c.loop-k.k (omega arith) (sym c.get.ensures ∙ c.in_default.is)

@@ -17,6 +17,6 @@ returns c =
     let row = sym (front_at plain_row d.rows (d.count - 1) (i - 1) c.index-dep-i.result (omega arith) (omega arith) no_row) in
     let before : rows_of c.listed-before.result ≡ take i xs = c.listed-before.ensures ∙ part_front (rows_of c.args.spans.now) d.first d.count i (omega arith) (omega arith) in
     let reach : wide_of c.reach.result ≡ reach_of q.taps q.residue q.exponent (take i xs) = (λ j. between (c.reach.ensures.least j) (c.reach.ensures.greatest j)) ∙ (λ j. reach_of (row j).taps (row j).residue (row j).exponent (before j)) in
-    let span = c.row-at-span.ensures.value ∙ sym (part_at (rows_of c.args.spans.now) d.first d.count i (omega arith)) in
-    let e : lowered (bounds_of c.row-at-span.result) (wide_of c.reach.result) ≡ row_after (plain_rows d) xs i = λ j. lowered (span j) (reach j) in
+    let span = c.row_at-span.ensures.value ∙ sym (part_at (rows_of c.args.spans.now) d.first d.count i (omega arith)) in
+    let e : lowered (bounds_of c.row_at-span.result) (wide_of c.reach.result) ≡ row_after (plain_rows d) xs i = λ j. lowered (span j) (reach j) in
     subst (λ b. MadeSpan c.lower.result (fits b) b) e c.lower.ensures

@@ -1,12 +1,12 @@
-use Rattle.std.proofs.Common.{◌+◌, ◌<◌, [], ◌∷◌, ◌++◌, length, sym, refl, ap, ◌∙◌, arith}
+use Rattle.std.proofs.Common.{◌<◌, [], ◌∷◌, ◌++◌, length, sym, refl, ap, ◌∙◌, arith}
 use Rattle.std.proofs.lemmas.List.FromFn.{length-map-range_with_len, map-range_with_len_more}
 use Rattle.sets.specs.Sets.{rows_of}
 use Rattle.stages.proofs.Every.{every_more, every-false}
 use Rattle.stages.proofs.Spans.{pushed}
 use Rattle.stages.proofs.gather.gathered.Goals as goal
 
-pub returns-in-default : goal.returns-in-default
-returns-in-default g c = every-false _ c.args.first c.args.count c.loop-k.k _ c.loop-k-test.true refl c.in-default.ensures
+pub returns-in_default : goal.returns-in_default
+returns-in_default g c = every-false _ c.args.first c.args.count c.loop-k.k _ c.loop-k-test.true refl c.in_default.ensures
 
 pub loop-k-preserved : goal.loop-k-preserved
 loop-k-preserved g c =

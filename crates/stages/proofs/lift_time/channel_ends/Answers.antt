@@ -8,8 +8,8 @@ use Rattle.stages.specs.Ranges.{fits, all_fit}
 use Rattle.stages.proofs.Spans.{two_fit}
 use Rattle.stages.proofs.lift_time.channel_ends.Goals as goal
 
-pub returns-then-not-lone-odd : goal.returns-then-not-lone-odd
-returns-then-not-lone-odd c =
+pub returns-then-not-lone_odd : goal.returns-then-not-lone_odd
+returns-then-not-lone_odd c =
     let f = c.args.shape.now in
     let l = c.args.lift.now in
     let p = plain_lift l in

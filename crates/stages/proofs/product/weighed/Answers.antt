@@ -18,13 +18,13 @@ ends c =
       (c.product-high.ensures.high, c.product-high.ensures.low),
     )
 
-pub invariant-of-result : goal.invariant-of-result
-invariant-of-result c =
+pub invariant_of-result : goal.invariant_of-result
+invariant_of-result c =
     let e = ends c in
     let s = min_small _ _ e.2 e.3 in
     let t = max_small _ _ e.2 e.3 in
     let m = min_max c.product-low.result c.product-high.result in
-    (rw (e.0, e.1) m, (rw e.0 (omega (arith, ints)), (rw e.1 (omega (arith, ints)), tt)))
+    record { ordered = rw (e.0, e.1) m; low = rw e.0 (omega (arith, ints)); high = rw e.1 (omega (arith, ints)) }
 
 pub returns : goal.returns
 returns c =

@@ -1,6 +1,5 @@
-use Rattle.std.proofs.Common.{pos, ◌+ℤ◌, ◌*ℤ◌, ap, ◌∙◌, arith, w64, SFits, rules}
+use Rattle.std.proofs.Common.{pos, ◌+ℤ◌, ◌*ℤ◌, ◌∙◌, arith, w64, SFits, rules}
 use Rattle.std.proofs.lemmas.Int.{ints, to_z-of_z}
-use Rattle.stages.specs.Floors.{floor_over}
 use Rattle.stages.proofs.rct_spans.quarter.Goals as goal
 
 pub returns : goal.returns
@@ -15,4 +14,4 @@ returns c =
     let part : SFits w64 (pos 2 *ℤ c.args.b +ℤ c.args.c) = omega (arith, ints) in
     let sum : SFits w64 (c.args.a +ℤ (pos 2 *ℤ c.args.b +ℤ c.args.c)) = omega (arith, ints) in
     let r : SFits w64 c.shifted.result = search rules in
-    to_z-of_z w64 _ r ∙ simp to_z-of_z at c.shifted.ensures.value ∙ ap (λ z. floor_over z 2) (to_z-of_z w64 (c.args.a +ℤ (pos 2 *ℤ c.args.b +ℤ c.args.c)) sum)
+    to_z-of_z w64 _ r ∙ simp to_z-of_z at c.shifted.ensures.value

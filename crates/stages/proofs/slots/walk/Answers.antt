@@ -7,11 +7,11 @@ use Rattle.stages.proofs.Parts.{front-more}
 use Rattle.stages.proofs.Walks.{walk_stops, walk_fits, walk_ends, walk_none}
 use Rattle.stages.proofs.slots.walk.Goals as goal
 
-pub returns-in-default : goal.returns-in-default
-returns-in-default c =
+pub returns-in_default : goal.returns-in_default
+returns-in_default c =
     let l = c.args.lift.now in
     let here = front-more plain_step l.steps l.step_count c.loop-k.k c.index-lift-k.result c.loop-k-test.true (omega arith) in
-    sym c.loop-k.invariant.0 ∙ walk_stops (slot_of c.args.line.now) c.loop-k.parity _ _ _ (rows_of c.loop-k.reached) here c.in-default.ensures
+    sym c.loop-k.invariant.0 ∙ walk_stops (slot_of c.args.line.now) c.loop-k.parity _ _ _ (rows_of c.loop-k.reached) here c.in_default.ensures
 
 pub loop-k-preserved : goal.loop-k-preserved
 loop-k-preserved c =

@@ -10,7 +10,7 @@ pub returns-in-default : goal.returns-in-default
 returns-in-default c =
     let x = at c.loop-i.area (c.args.start + c.loop-i.i * c.args.by) in
     let f : SFits w32 x = search rules in
-    let odd : (y : ℤ) → y +ℤ y ≡ x → ⊥ = simp to_z-of_z at c.in-default.ensures in
+    let odd : (y : ℤ) → y +ℤ y ≡ x → ⊥ = simp to_z-of_z at c.in_default.ensures in
     let old = spaced_old Half _ _ _ c.loop-i.i c.loop-i.area c.requires.1 c.loop-i.invariant in
     record {
       even = λ e. absurd (false≢true e);

@@ -20,7 +20,7 @@ pub loop-c-preserved : goal.loop-c-preserved
 loop-c-preserved g c =
     let m = meaning g.Self.Stages c.args.self.now in
     let f = c.args.shape.now in
-    let few : f.channels ≤ 64 = (limits f (true_from_ok (in_limits f) _ c.in-default.ensures)).channels in
+    let few : f.channels ≤ 64 = (limits f (true_from_ok (in_limits f) _ c.in_default.ensures)).channels in
     elim c.if-lists.branch [
       | then-lists w ↦ listed_then m f c.args.number c.loop-c.c c.args.list.now c.loop-c.list c.if-lists.list c.loop-c.n c.if-lists.n w.list-is w.n-is (omega arith) c.loop-c.invariant w.if-lists.ensures
       | else-lists w ↦ listed_else m f c.args.number c.loop-c.c c.args.list.now c.loop-c.list c.if-lists.list c.loop-c.n c.if-lists.n w.list-is w.n-is c.loop-c.invariant w.if-lists.ensures

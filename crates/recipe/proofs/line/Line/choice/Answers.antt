@@ -9,7 +9,7 @@ pub returns-in-default : goal.returns-in-default
 returns-in-default c =
     let line = c.args.self.now in
     first_wrong-here line.number (fields_of line.bytes.now) c.args.k (listed (c.args.first.now ∷ c.args.second.now ∷ [])) [] _
-    (wrong-no-word _ _ (shown_no_word c.field.result _ c.field.ensures c.in-default.not-Word))
+    (wrong-no-word _ _ (shown_no_word c.field.result _ c.field.ensures c.in_default.not-Word))
     ∙ ap Some (sym c.fault.ensures)
 
 pub returns-then-eq : goal.returns-then-eq

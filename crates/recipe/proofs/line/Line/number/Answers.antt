@@ -9,7 +9,7 @@ pub returns-in-default : goal.returns-in-default
 returns-in-default c =
     let line = c.args.self.now in
     first_wrong-here line.number (fields_of line.bytes.now) c.args.k (between c.args.least c.args.greatest) [] _
-    (wrong-no-number _ _ _ (shown_no_number c.field.result _ c.field.ensures c.in-default.not-Number))
+    (wrong-no-number _ _ _ (shown_no_number c.field.result _ c.field.ensures c.in_default.not-Number))
     ∙ ap Some (sym c.fault.ensures)
 
 pub returns-in-Some : goal.returns-in-Some

@@ -8,7 +8,7 @@ use Rattle.recipe.proofs.numbered.RecipeTable.stage.Goals as goal
 pub returns-in-default : goal.returns-in-default
 returns-in-default c =
     let ss = stages_of c.args.self.now in
-    absurd (nth_inside ss c.args.number (omega (arith, length-map ss plain)) (sym c.get.ensures ∙ c.in-default.is))
+    absurd (nth_inside ss c.args.number (omega (arith, length-map ss plain)) (sym c.get.ensures ∙ c.in_default.is))
 
 pub returns : goal.returns
 returns c = sym (table_at c.args.self.now c.args.number c.in-Some.stage (rct 0) (sym c.in-Some.ensures)).1

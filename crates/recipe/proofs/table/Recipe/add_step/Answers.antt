@@ -22,7 +22,7 @@ returns-in-default c =
     let r = c.args.self.now in
     let s = get_or r.stages (r.len - 1) c.index-self-self.result in
     let e = last_of r.stages r.len c.index-self-self.result (omega arith) (omega arith) in
-    e ∙ sym (with_step-other _ (front r.stages r.len) s c.in-default.not-Lift) ∙ ap (with_step _) (sym e)
+    e ∙ sym (with_step-other _ (front r.stages r.len) s c.in_default.not-Lift) ∙ ap (with_step _) (sym e)
 
 pub listed-2 : goal.listed-2
 listed-2 c = omega (arith, room c)

@@ -19,14 +19,15 @@ floors c =
     let g : SFits w64 c.shifted-greatest.result = search rules in
     (to_z-of_z w64 _ f ∙ simp to_z-of_z at c.shifted-least.ensures.value, to_z-of_z w64 _ g ∙ simp to_z-of_z at c.shifted-greatest.ensures.value)
 
-pub invariant-of-result : goal.invariant-of-result
-invariant-of-result c =
+pub invariant_of-result : goal.invariant_of-result
+invariant_of-result c =
     let e = floors c in
     let s = c.summed-sum.result in
-    let n = c.args.self.now.exponent in (
-      rw (e.0, e.1) (floor_mono s.least s.greatest n s.ordered),
-      (rw e.0 (floor_low s.least n (2 ^ 50) s.low), (rw e.1 (floor_high s.greatest n (2 ^ 50) s.high), tt)),
-    )
+    let n = c.args.self.now.exponent in record {
+      ordered = rw (e.0, e.1) (floor_mono s.least s.greatest n s.ordered);
+      low = rw e.0 (floor_low s.least n (2 ^ 50) s.low);
+      high = rw e.1 (floor_high s.greatest n (2 ^ 50) s.high);
+    }
 
 pub returns : goal.returns
 unfolding reach_of

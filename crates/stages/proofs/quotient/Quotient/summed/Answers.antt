@@ -1,4 +1,4 @@
-use Rattle.std.proofs.Common.{◌<◌, ◌≤◌, length, get_or, ℤ, pos, ◌+ℤ◌, ◌*ℤ◌, sym, refl, ◌∙◌, arith, w16, w64, SFits, rules}
+use Rattle.std.proofs.Common.{◌<◌, ◌≤◌, length, get_or, pos, ◌+ℤ◌, ◌*ℤ◌, sym, refl, ◌∙◌, arith, w16, w64, SFits, rules}
 use Rattle.std.proofs.lemmas.List.{get_or-take, length-take}
 use Rattle.std.proofs.lemmas.Int.{ints, to_z-of_z}
 use Rattle.std.specs.Int.{int_max, int_min}
@@ -18,7 +18,7 @@ loop-k-preserved c =
     let low : SFits w64 part.least = search rules in
     let high : SFits w64 part.greatest = search rules in
     let t = sym (get_or-take q.tap_count q.taps k (pos 0) c.loop-k-test.true) in
-    let row = c.row-at-span.ensures.value in
+    let row = c.row_at-span.ensures.value in
     let least = simp to_z-of_z at c.weighed-part.ensures.least in
     let greatest = simp to_z-of_z at c.weighed-part.ensures.greatest in
     let small_low : SFits w64 (c.loop-k.least +ℤ part.least) = omega (arith, ints) in

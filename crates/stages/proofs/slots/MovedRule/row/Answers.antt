@@ -22,5 +22,5 @@ returns c =
     let read : rows_of c.listed-read.result ≡ sources_of slot s.parity (plain_step s.step) bs i = c.listed-read.ensures ∙ ap (λ n. map (λ k. at bs (slot (source_index (parity_of s.parity) i s.step.offset k))) (range_with_len 0 n)) (sym taps) in
     let reach : wide_of c.reach.result ≡ reach_of (taps_of q) q.residue q.exponent (sources_of slot s.parity (plain_step s.step) bs i) = (λ j. between (c.reach.ensures.least j) (c.reach.ensures.greatest j)) ∙ ap (reach_of (taps_of q) q.residue q.exponent) read in
     let hit : i % 2 ≡ parity_of s.parity = omega arith in
-    let e : raised (bounds_of c.row-at-span.result) (wide_of c.reach.result) ≡ slot_after slot s.parity (plain_step s.step) bs i = (λ j. raised (c.row-at-span.ensures.value j) (reach j)) ∙ sym (cond-true _ _ _ (eq-eqb _ _ hit)) in
+    let e : raised (bounds_of c.row_at-span.result) (wide_of c.reach.result) ≡ slot_after slot s.parity (plain_step s.step) bs i = (λ j. raised (c.row_at-span.ensures.value j) (reach j)) ∙ sym (cond-true _ _ _ (eq-eqb _ _ hit)) in
     subst (λ b. MadeSpan c.raise.result (fits b) b) e c.raise.ensures

@@ -14,15 +14,15 @@ returns-in-Err c =
 pub returns-then-len-shape : goal.returns-then-len-shape
 returns-then-len-shape c = refused_count _ _ _ (limits_kept _ c.in-Ok.ensures) (ne_eqb _ _ (λ x. omega arith))
 
-pub returns-then-not-fits-in : goal.returns-then-not-fits-in
-returns-then-not-fits-in c =
+pub returns-then-not-fits_in : goal.returns-then-not-fits_in
+returns-then-not-fits_in c =
     let d : fits_in (plain c.args.self.now) c.args.shape.now.channels ≡ false = search rules in
     refused_fit _ _ _ (limits_kept _ c.in-Ok.ensures) (eq-eqb _ _ (omega arith)) d
 
-pub returns-in-default : goal.returns-in-default
-returns-in-default c =
+pub returns-in_default : goal.returns-in_default
+returns-in_default c =
     let d : fits_in (plain c.args.self.now) c.args.shape.now.channels ≡ true = search rules in
-    refused_width _ _ _ (limits_kept _ c.in-Ok.ensures) (eq-eqb _ _ (omega arith)) d c.in-default.ensures
+    refused_width _ _ _ (limits_kept _ c.in-Ok.ensures) (eq-eqb _ _ (omega arith)) d c.in_default.ensures
 
 pub returns : goal.returns
 returns c =
