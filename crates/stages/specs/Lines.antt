@@ -1,5 +1,5 @@
 -- The indices of a line, and what stands for an index outside it.
-use Rattle.std.specs.Prelude.{ℕ, zero, suc, ◌+◌, ◌-◌, ◌*◌, ◌/◌, ◌%◌, ◌^◌, ◌<◌, ◌≤◌, Bool, cond, ◌&&◌, ℤ, pos, negsuc, ◌-ℤ◌, nat_le, nat_lt, unsigned_abs}
+use Rattle.std.specs.Prelude.{ℕ, zero, suc, ◌+◌, ◌-◌, ◌*◌, ◌/◌, ◌%◌, ◌^◌, ◌<◌, ◌≤◌, Bool, cond, ◌&&◌, ℤ, pos, negsuc, neg_ℤ, ◌-ℤ◌, nat_le, nat_lt, int_le, unsigned_abs}
 use Rattle.stages.specs.declared.stage.Extension.{Extension}
 use Rattle.stages.specs.declared.stage.Extension.TheVariants.{Mirrored, Nearest}
 
@@ -15,6 +15,10 @@ index_count v p n = (p + n - 1) / 2 ^ v + 1 - first_index v p
 -- so many indices, two or more, can be a line's
 abbrev pub is_line : ℕ → Bool
 is_line n = nat_le 2 n && nat_le n 2097152
+
+-- no further off than 2^40 either way, as is every index that a step can read
+abbrev pub is_index : ℤ → Bool
+is_index z = int_le (neg_ℤ (pos (2 ^ 40))) z && int_le z (pos (2 ^ 40))
 
 -- On a line whose indices are 0 to n - 1, an index outside is mirrored about the first or the last until it is inside.
 pub data MirroredTo (n : ℕ) : ℤ → ℕ → Type 0 where

@@ -1,4 +1,4 @@
-ghost use Rattle.std.specs.Prelude.{◌≡◌, ◌+◌, ◌≤◌, length, pos, negsuc, ◌≤ℤ◌};
+ghost use Rattle.std.specs.Prelude.{◌≡◌, ◌+◌, ◌≤◌, length};
 
 use crate::quotient::Quotient;
 
@@ -28,8 +28,6 @@ pub enum Parity {
 pub struct Step {
     pub offset: i32,
     pub quotient: Quotient,
-    ghost low: { negsuc 7 ≤ℤ offset },
-    ghost high: { offset ≤ℤ pos 8 },
 }
 
 #[derive(Clone, Copy)]
