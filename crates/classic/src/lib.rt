@@ -1,2 +1,4 @@
 // The classic stages: a table that is the same for every recording.
+#![tactic(auto)]
+
 pub mod table;
