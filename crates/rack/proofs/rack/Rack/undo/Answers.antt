@@ -1,4 +1,4 @@
-use Rattle.std.proofs.Common.{◌≡◌, ℕ, List, length, ℤ, Ok, Option, sym, ◌∙◌, subst}
+use Rattle.std.proofs.Common.{ℕ, List, length, ℤ, Ok, Option, sym, ◌∙◌, subst}
 use Rattle.sets.specs.declared.bounds.Bounds.{Bounds}
 use Rattle.sets.specs.declared.shape.Shape.{Shape}
 use Rattle.sets.specs.Sets.{rows_of}
