@@ -37,10 +37,10 @@ module _ (n : ℕ) (p : ℕ → ℕ → Plain) (few : n ≤ 1000) (laws : (f : S
 
   bank-local : Local (bank n p)
   bank-local = record {
-    keeps_spans = λ f k bs cs r. subst (λ ds. SameSpans f (unlisted (bank n p) f k) bs ds) (made_some _ _ cs r.makes) ((law f k r.suits).keeps-spans bs r.many);
-    keeps_samples = λ f k bs cs xs r w. (law f k r.suits).keeps-samples xs w.long;
-    local_spans = λ f k bs ds s l m e. same_width f _ _ _ _ _ ((law f k s).local-width bs ds l m e) ((law f k s).local-spans bs ds l m e);
-    local_samples = λ f k bs cs ds es xs ys r q v w e. (law f k r.suits).local-samples xs ys v.long w.long e;
+    keeps_spans = λ f k bs cs r. subst (λ ds. SameSpans f (unlisted (bank n p) f k) bs ds) (made_some _ _ cs r.makes) ((law f k r.suits).keeps_spans bs r.many);
+    keeps_samples = λ f k bs cs xs r w. (law f k r.suits).keeps_samples xs w.long;
+    local_spans = λ f k bs ds s l m e. same_width f _ _ _ _ _ ((law f k s).local_width bs ds l m e) ((law f k s).local_spans bs ds l m e);
+    local_samples = λ f k bs cs ds es xs ys r q v w e. (law f k r.suits).local_samples xs ys v.long w.long e;
   }
 
   pub bank-lawful : Lawful (bank n p)

@@ -59,8 +59,8 @@ module _ (f : Shape) (l : PlainLift) (slot : ℤ → ℕ) (n : ℕ) (group place
     read_inside : (k : ℕ) → In (slot_at (slots (group a)) (slot (source_index (parity_of m) (place a) s.offset k))) (at xs (read_index_at f l m s.offset a k))
     read_inside k =
         let r = standing.reads m s.offset a k h t in
-        let g = standing.read-group m s.offset a k h t in
-        let p = standing.read-place m s.offset a k h t in
+        let g = standing.read_group m s.offset a k h t in
+        let p = standing.read_place m s.offset a k h t in
         same_in _ _ _ _ (sym (λ i. slot_at (slots (g i)) (p i))) refl (in-slots.inside _ r.0 r.1)
 
     -- so what is added to a sample lies in the reach of its slot
