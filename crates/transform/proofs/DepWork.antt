@@ -1,5 +1,5 @@
 -- Dependency rows on an area that they are admitted to, applied and undone.
-use Rattle.std.proofs.Common.{◌≡◌, ℕ, ◌+◌, ◌-◌, ◌<◌, ◌≤◌, Bool, List, length, ℤ, sym, ◌∙◌, subst, arith}
+use Rattle.std.proofs.Common.{◌≡◌, ℕ, ◌+◌, ◌-◌, ◌≤◌, Bool, List, length, ℤ, sym, ◌∙◌, subst, arith}
 use Rattle.std.proofs.lemmas.Bool.{leb-true}
 use Rattle.sets.specs.declared.shape.Shape.{Shape}
 use Rattle.sets.specs.declared.span_list.SpanList.{SpanList}

@@ -1,5 +1,5 @@
 -- Positions far enough from the ends of a line: what a step reads for them is inside it, and moves on with them.
-use Rattle.std.proofs.Common.{◌≡◌, ℕ, ◌+◌, ◌-◌, ◌*◌, ◌%◌, ◌<◌, ◌≤◌, ℤ, pos, negsuc, ◌+ℤ◌, ◌-ℤ◌, ◌*ℤ◌, ◌≤ℤ◌, ◌<ℤ◌, sym, ap, ◌∙◌, arith}
+use Rattle.std.proofs.Common.{◌≡◌, ℕ, ◌+◌, ◌*◌, ◌%◌, ◌<◌, ◌≤◌, ℤ, pos, negsuc, ◌+ℤ◌, ◌-ℤ◌, ◌*ℤ◌, ◌≤ℤ◌, ◌<ℤ◌, sym, ap, ◌∙◌, arith}
 use Rattle.std.proofs.lemmas.Int.{ints}
 use Rattle.sets.specs.declared.shape.Shape.{Shape}
 use Rattle.stages.specs.declared.stage.Extension.{Extension}
@@ -12,6 +12,7 @@ use Rattle.stages.specs.Lines.{inside, extended}
 use Rattle.stages.specs.Plain.{PlainLift}
 use Rattle.stages.proofs.Mirrors.{mirrored_is, nearest-inside}
 use Rattle.transform.specs.declared.lines.Lines.{Lines}
+use Rattle.transform.specs.Near.{Near}
 use Rattle.transform.proofs.Serving.{read_index_at}
 
 extended-inside : (e : Extension) (n k : ℕ) → 2 ≤ n → k < n → extended e n (pos k) ≡ k
@@ -33,12 +34,12 @@ parity_small : (m : Parity) → parity_of m ≤ 1
 parity_small Even = omega arith
 parity_small Odd = omega arith
 
-module _ (f : Shape) (l : PlainLift) (n : Lines) (m : Parity) (s : Step) (many : 2 ≤ n.count) where
+module _ (f : Shape) (l : PlainLift) (n : Lines) (m : Parity) (s : Step) (near : Near s) (many : 2 ≤ n.count) where
   read_inside : (j k : ℕ) → (n.first + j) % 2 ≡ parity_of m → k < 8 → 17 ≤ j → j + 31 < n.count → pos (read_index_at f l n m s j k) ≡ pos j +ℤ far (parity_of m) s.offset k
   read_inside j k p h low high =
       let one = parity_small m in
       let e = source_from n.first j (parity_of m) k s.offset one p in
-      extended-stays l.extension n.count _ many (omega (arith, ints, s.low, s.high)) (omega (arith, ints, s.low, s.high)) ∙ e
+      extended-stays l.extension n.count _ many (omega (arith, ints, near.low, near.high)) (omega (arith, ints, near.low, near.high)) ∙ e
 
   -- two positions that are both inside read at the same distance
   pub read_moves : (j i k : ℕ) → (n.first + j) % 2 ≡ parity_of m → k < 8 → 17 ≤ j → j + 2 * i + 31 < n.count → read_index_at f l n m s (j + 2 * i) k ≡ read_index_at f l n m s j k + 2 * i

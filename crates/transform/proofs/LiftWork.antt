@@ -5,7 +5,7 @@ use Rattle.std.proofs.lemmas.Int.{ints, int_wrap_fits}
 use Rattle.std.proofs.lemmas.Bool.{cases_Bool, cond-true, cond-false, leb-true}
 use Rattle.sets.specs.declared.shape.Shape.{Shape}
 use Rattle.sets.specs.declared.span_list.SpanList.{SpanList}
-use Rattle.sets.specs.Areas.{at, sample_at, size_of, area_of, within, Within}
+use Rattle.sets.specs.Areas.{at, size_of, within, Within}
 use Rattle.sets.specs.Sets.{rows_of}
 use Rattle.stages.specs.Plain.{PlainLift, PlainStep, lift}
 use Rattle.rules.specs.Lifted.{count_of, touched, lone_odd, doubled_at, lift_passes, lift_samples}

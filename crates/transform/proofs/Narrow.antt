@@ -1,5 +1,5 @@
 -- The bounds of a list of spans are signed 32-bit numbers.
-use Rattle.std.proofs.Common.{◌≡◌, ℕ, zero, suc, ◌<◌, Bool, true, ◌&&◌, List, [], ◌∷◌, length, get_or, take, ℤ, pos, negsuc, ◌≤ℤ◌, sym, refl, subst, arith}
+use Rattle.std.proofs.Common.{◌≡◌, ℕ, suc, ◌<◌, true, List, [], ◌∷◌, length, get_or, ℤ, pos, negsuc, ◌≤ℤ◌, sym, refl, subst, arith}
 use Rattle.std.specs.Int.Signed.{le_z}
 use Rattle.std.proofs.lemmas.List.{get_or-take, length-take}
 use Rattle.std.proofs.lemmas.Int.{ints}
@@ -8,7 +8,7 @@ use Rattle.sets.specs.declared.bounds.Bounds.{Bounds}
 use Rattle.sets.specs.declared.span_list.SpanList.{SpanList}
 use Rattle.sets.specs.Ordered.{no_bounds}
 use Rattle.sets.specs.Sets.{rows_of}
-use Rattle.stages.specs.Ranges.{fits, fits32, all_fit, at}
+use Rattle.stages.specs.Ranges.{fits, all_fit, at}
 
 between-fits : (b : Bounds) → b.least ≤ℤ b.greatest → negsuc 2147483647 ≤ℤ b.least → b.greatest ≤ℤ pos 2147483647 → fits b ≡ true
 between-fits b ordered low high =

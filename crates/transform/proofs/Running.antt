@@ -16,6 +16,7 @@ use Rattle.rules.proofs.LiftReads.{lift_blind}
 use Rattle.rules.proofs.Places.{time_below}
 use Rattle.transform.specs.declared.lines.Lines.{Lines}
 use Rattle.transform.specs.Lined.{spot, Spot, Lined}
+use Rattle.transform.specs.Near.{Near}
 use Rattle.transform.specs.Parts.{part_of, index_at, between, of_channel, below_channel, both}
 use Rattle.transform.specs.Turned.{Turned}
 use Rattle.transform.proofs.Inside.{read_moves}
@@ -39,10 +40,10 @@ module _ (f : Shape) (l : PlainLift) (n : Lines) (lined : Lined f l n) (time : l
       (found.0, found.1, found.2, ap (λ x. x / f.samples) found.2 ∙ here.channel time, low)
 
   -- a call along line r serves count positions from j on, all of them inside
-  pub run_served : (m : Parity) (s : Step) (r j count : ℕ) (from : List ℕ) → r < n.lines → (n.first + j) % 2 ≡ parity_of m → 17 ≤ j → j + 2 * count + 30 ≤ n.count →
+  pub run_served : (m : Parity) (s : Step) → Near s → (r j count : ℕ) (from : List ℕ) → r < n.lines → (n.first + j) % 2 ≡ parity_of m → 17 ≤ j → j + 2 * count + 30 ≤ n.count →
       ((k : ℕ) → k < s.quotient.tap_count → get_or from k 0 ≡ spot n r (read_index_at f l n m s j k)) →
       Served f l n m s (both (between f l (n.first + j) (n.first + (j + 2 * count))) (of_channel f (l.first + r))) (spot n r j) (2 * n.by) count from
-  run_served m s r j count from on p low high e =
+  run_served m s near r j count from on p low high e =
       let here : (i : ℕ) → i < count → Spot f l n r (j + 2 * i) (spot n r j + i * (2 * n.by)) = λ i h.
       subst (Spot f l n r (j + 2 * i)) (sym (spot-moves n r j i)) (lined.here r (j + 2 * i) on (omega arith)) in
       record {
@@ -53,7 +54,7 @@ module _ (f : Shape) (l : PlainLift) (n : Lines) (lined : Lined f l n) (time : l
         parity = λ i h. omega arith;
         place = λ i h. spot-moves n r j i;
         reads = λ i k h g.
-            let moves = read_moves f l n m s (omega arith) j i k p (omega (arith, s.quotient.few)) low (omega arith) in
+            let moves = read_moves f l n m s near (omega arith) j i k p (omega (arith, s.quotient.few)) low (omega arith) in
             ap (λ x. x + i * (2 * n.by)) (e k g) ∙ spot-moves n r (read_index_at f l n m s j k) i ∙ ap (spot n r) (sym moves);
         told = λ i h.
             let o = here i h in

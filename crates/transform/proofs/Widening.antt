@@ -1,5 +1,5 @@
 -- The rule on spans where nothing but the width can refuse.
-use Rattle.std.proofs.Common.{◌≡◌, Bool, true, false, cond, eqb, List, length, is_ok, Some, None, Result, refl, ap, ◌∙◌}
+use Rattle.std.proofs.Common.{◌≡◌, Bool, true, false, cond, List, length, is_ok, Some, None, Result, refl, ap, ◌∙◌}
 use Rattle.std.proofs.lemmas.Bool.{eq-eqb}
 use Rattle.sets.specs.declared.bounds.Bounds.{Bounds}
 use Rattle.sets.specs.declared.refusal.Refusal.{Refusal}

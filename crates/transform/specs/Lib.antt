@@ -8,3 +8,4 @@ pub mod Lined
 pub mod Turns
 pub mod Lone
 pub mod Work
+pub mod Near

@@ -1,4 +1,6 @@
 // Stages on samples: applied and undone in place.
+#![tactic(auto)]
+
 pub mod bank;
 mod dep;
 mod dep_work;

@@ -1,5 +1,6 @@
 ghost use Rattle.std.specs.Prelude.{◌≡◌, ◌+◌, ◌*◌, ◌<◌, ◌≤◌, length};
 ghost use Rattle.stages.specs.declared.stage.Axis.TheVariants.{Time};
+ghost use Rattle.transform.specs.Near.{Near};
 ghost use Rattle.transform.specs.Parts.{both};
 ghost use Rattle.transform.specs.Turns.{Ready, Hits, TurnedAt, from_to, on_line};
 
@@ -10,6 +11,7 @@ use crate::turn::Turn;
 // A step on one channel, at `count` positions of its parity from j on, so far from the ends that all it reads is inside.
 fn turn_run<const UNDO: bool>(turn: &Turn, line: usize, j: usize, count: usize, area: &mut [i32])
     requires ready { (Ready turn.now (length area.old)) × ((turn.now.lift.axis ≡ Time) × (Hits turn.now j)) }
+    requires near { Near turn.now.step }
     requires inside { (line < turn.now.lines.lines) × ((32 ≤ j) × (j + 2 * count + 32 ≤ turn.now.lines.count)) }
     ensures { TurnedAt UNDO turn.now (both (from_to turn.now j (j + 2 * count)) (on_line turn.now line)) area.old area.new }
 {
@@ -22,6 +24,7 @@ fn turn_run<const UNDO: bool>(turn: &Turn, line: usize, j: usize, count: usize, 
 // The same on every channel of the lifting.
 pub(crate) fn turn_runs<const UNDO: bool>(turn: &Turn, j: usize, count: usize, area: &mut [i32])
     requires ready { (Ready turn.now (length area.old)) × ((turn.now.lift.axis ≡ Time) × (Hits turn.now j)) }
+    requires near { Near turn.now.step }
     requires inside { (32 ≤ j) × (j + 2 * count + 32 ≤ turn.now.lines.count) }
     ensures { TurnedAt UNDO turn.now (from_to turn.now j (j + 2 * count)) area.old area.new }
 {

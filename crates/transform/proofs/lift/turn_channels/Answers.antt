@@ -9,6 +9,6 @@ returns g c =
     let ready = c.requires.ready.0 in
     let many = subst (λ n. 2 ≤ n) ready.lined.count ready.many in
     let front = window_joined t.shape (plain_lift t.lift) t.parity (plain_step t.step) ready.fits many _ _ _ _ ready.long
-    _ _ _ (omega arith) (omega arith) c.turn-positions-2.ensures c.turn-runs.ensures in
+    _ _ _ (omega arith) (omega arith) c.turn_positions-2.ensures c.turn_runs.ensures in
     window_joined t.shape (plain_lift t.lift) t.parity (plain_step t.step) ready.fits many _ _ _ _ ready.long
-    _ _ _ (omega arith) (omega arith) front c.turn-positions-3.ensures
+    _ _ _ (omega arith) (omega arith) front c.turn_positions-3.ensures

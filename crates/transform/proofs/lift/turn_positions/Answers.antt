@@ -17,7 +17,7 @@ loop-j-preserved g c =
       omega arith,
       omega (arith, inv.2),
       window_more t.shape (plain_lift t.lift) t.parity (plain_step t.step) ready.fits (subst (λ n. 2 ≤ n) ready.lined.count ready.many) _ _ _ _ ready.long
-          _ _ _ (omega arith) (omega arith) inv.2 inv.3 c.turn-position.ensures,
+          _ _ _ (omega arith) (omega arith) inv.2 inv.3 c.turn_position.ensures,
     )
 
 pub returns : goal.returns

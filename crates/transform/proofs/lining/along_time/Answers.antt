@@ -6,42 +6,35 @@ use Rattle.transform.proofs.Limits.{time_start_small, first_small, count_small}
 use Rattle.transform.proofs.Spots.{time_lined}
 use Rattle.transform.proofs.lining.along_time.Goals as goal
 
-pub overflow-sub-result : goal.overflow-sub-result
-overflow-sub-result c =
-    let at = place_from c.args.lift.now.level c.args.shape.now.origin c.first-index-first.result (omega (arith, c.first-index-first.ensures)) in
-    omega (arith, ap (λ x. c.first-index-first.result * x) c.distance-by.ensures.value)
+pub overflow_sub-result : goal.overflow_sub-result
+overflow_sub-result c =
+    let at = place_from c.args.lift.now.level c.args.shape.now.origin c.first_index-first.result (omega (arith, c.first_index-first.ensures)) in
+    omega (arith, ap (λ x. c.first_index-first.result * x) c.distance-by.ensures.value)
 
-pub overflow-add-result : goal.overflow-add-result
-overflow-add-result c =
+pub overflow_add-result : goal.overflow_add-result
+overflow_add-result c =
     let l = c.args.lift.now in
     let m = limits c.args.shape.now c.requires.0 in
-    omega (arith, time_start_small c.args.shape.now l.first l.level _ _ m (omega (arith, l.inside)) l.shallow c.first-index-first.ensures c.distance-by.ensures.value)
+    omega (arith, time_start_small c.args.shape.now l.first l.level _ _ m (omega (arith, l.inside)) l.shallow c.first_index-first.ensures c.distance-by.ensures.value)
 
-pub invariant-of-result : goal.invariant-of-result
-invariant-of-result c =
+pub invariant_of-result : goal.invariant_of-result
+invariant_of-result c =
     let l = c.args.lift.now in
     let f = c.args.shape.now in
-    let m = limits f c.requires.0 in (
-      time_start_small f l.first l.level _ _ m (omega (arith, l.inside)) l.shallow c.first-index-first.ensures c.distance-by.ensures.value,
-      (
-        c.distance-by.ensures.some,
-        (
-          omega (arith, c.distance-by.ensures.small),
-          (
-            omega (arith, first_small l.level f.origin f.samples l.shallow m.origin m.samples, c.first-index-first.ensures),
-            (
-              omega (arith, count_small l.level f.origin f.samples l.shallow m.origin m.samples, c.index-count.ensures),
-              (omega (arith, l.inside), (m.samples, tt)),
-            ),
-          ),
-        ),
-      ),
-    )
+    let m = limits f c.requires.0 in record {
+      near = time_start_small f l.first l.level _ _ m (omega (arith, l.inside)) l.shallow c.first_index-first.ensures c.distance-by.ensures.value;
+      spread = c.distance-by.ensures.some;
+      close = omega (arith, c.distance-by.ensures.small);
+      low = omega (arith, first_small l.level f.origin f.samples l.shallow m.origin m.samples, c.first_index-first.ensures);
+      few = omega (arith, count_small l.level f.origin f.samples l.shallow m.origin m.samples, c.index_count.ensures);
+      many = omega (arith, l.inside);
+      wide = m.samples;
+    }
 
 pub returns : goal.returns
 returns c =
     let l = c.args.lift.now in
     let f = c.args.shape.now in
     let m = limits f c.requires.0 in
-    time_lined f (plain_lift l) _ c.requires.1.1 c.requires.1.0 m.long c.first-index-first.ensures c.index-count.ensures
-    refl (ap (λ x. l.first * f.samples + (c.first-index-first.result * x - f.origin)) c.distance-by.ensures.value) c.distance-by.ensures.value refl
+    time_lined f (plain_lift l) _ c.requires.1.1 c.requires.1.0 m.long c.first_index-first.ensures c.index_count.ensures
+    refl (ap (λ x. l.first * f.samples + (c.first_index-first.result * x - f.origin)) c.distance-by.ensures.value) c.distance-by.ensures.value refl

@@ -4,20 +4,20 @@ use Rattle.transform.specs.Lone.{Half}
 use Rattle.transform.proofs.Lones.{lone_time, lone_count, lone_at, lone_touched, lone-odd}
 use Rattle.transform.proofs.lone.halve_lone.Goals as goal
 
-pub along-time-lines-requires : goal.along-time-lines-requires
-along-time-lines-requires c = (c.requires.limits.0, (c.requires.limits.1, lone_time c.args.shape.now (plain_lift c.args.lift.now) c.requires.lone))
+pub along_time-lines-requires : goal.along_time-lines-requires
+along_time-lines-requires c = (c.requires.limits.0, (c.requires.limits.1, lone_time c.args.shape.now (plain_lift c.args.lift.now) c.requires.lone))
 
-pub halve-spaced-requires : goal.halve-spaced-requires
-halve-spaced-requires c =
-    let lined = c.along-time-lines.ensures in
+pub halve_spaced-requires : goal.halve_spaced-requires
+halve_spaced-requires c =
+    let lined = c.along_time-lines.ensures in
     let one = lone_count c.args.shape.now (plain_lift c.args.lift.now) c.requires.lone in
     (λ i h. omega (arith, (lone_at _ _ _ lined one i h).below, c.requires.long), lined.apart)
 
 pub returns : goal.returns
 returns c =
-    let lined = c.along-time-lines.ensures in
+    let lined = c.along_time-lines.ensures in
     let one = lone_count c.args.shape.now (plain_lift c.args.lift.now) c.requires.lone in
     record {
-      even = λ e. lone_touched _ _ _ lined one Half _ _ c.requires.long (c.halve-spaced.ensures.even e);
-      odd = λ e. lone-odd _ _ _ lined one _ c.requires.long (c.halve-spaced.ensures.odd e);
+      even = λ e. lone_touched _ _ _ lined one Half _ _ c.requires.long (c.halve_spaced.ensures.even e);
+      odd = λ e. lone-odd _ _ _ lined one _ c.requires.long (c.halve_spaced.ensures.odd e);
     }

@@ -6,8 +6,8 @@ use Rattle.transform.specs.Lone.{Half}
 use Rattle.transform.proofs.Lones.{spaced_old, spaced_more}
 use Rattle.transform.proofs.lone.halve_spaced.Goals as goal
 
-pub returns-in-default : goal.returns-in-default
-returns-in-default c =
+pub returns-in_default : goal.returns-in_default
+returns-in_default c =
     let x = at c.loop-i.area (c.args.start + c.loop-i.i * c.args.by) in
     let f : SFits w32 x = search rules in
     let odd : (y : ℤ) → y +ℤ y ≡ x → ⊥ = simp to_z-of_z at c.in_default.ensures in

@@ -1,7 +1,6 @@
 use Rattle.std.proofs.Common.{pos, ◌+ℤ◌, ◌*ℤ◌, ap, ◌∙◌, arith, w32, w64, SFits, rules}
 use Rattle.std.specs.Int.{int_wrap}
 use Rattle.std.proofs.lemmas.Int.{ints, to_z-of_z}
-use Rattle.stages.specs.Floors.{floor_over}
 use Rattle.transform.proofs.rct.luma.Goals as goal
 
 pub returns : goal.returns
@@ -16,6 +15,6 @@ returns c =
     let part : SFits w64 (pos 2 *ℤ c.args.b +ℤ c.args.c) = omega (arith, ints) in
     let sum : SFits w64 (c.args.a +ℤ (pos 2 *ℤ c.args.b +ℤ c.args.c)) = omega (arith, ints) in
     let q : SFits w64 c.quarter.result = search rules in
-    let r : SFits w32 c.low-bits.result = search rules in
-    let e = simp to_z-of_z at c.quarter.ensures ∙ ap (λ z. floor_over z 2) (to_z-of_z w64 (c.args.a +ℤ (pos 2 *ℤ c.args.b +ℤ c.args.c)) sum) in
-    to_z-of_z w32 _ r ∙ simp to_z-of_z at c.low-bits.ensures ∙ ap (int_wrap w32) e
+    let r : SFits w32 c.low_bits.result = search rules in
+    let e = simp to_z-of_z at c.quarter.ensures in
+    to_z-of_z w32 _ r ∙ simp to_z-of_z at c.low_bits.ensures ∙ ap (int_wrap w32) e

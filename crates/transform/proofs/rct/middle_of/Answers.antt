@@ -20,8 +20,8 @@ quartered c =
     let high = floor_high (c.args.one +ℤ c.args.other) 2 (2 ^ 32) (omega (arith, ints)) in
     (e, rw e (omega (arith, ints)))
 
-pub overflow-sub-luma : goal.overflow-sub-luma
-overflow-sub-luma c =
+pub overflow_sub-luma : goal.overflow_sub-luma
+overflow_sub-luma c =
     let q : SFits w64 c.quarter.result = search rules in
     let a = c.ranges.luma in
     let wide-a : SFits w64 c.args.luma = omega (arith, ints) in
@@ -33,6 +33,6 @@ returns c =
     let q : SFits w64 c.quarter.result = search rules in
     let a = c.ranges.luma in
     let wide-a : SFits w64 c.args.luma = omega (arith, ints) in
-    let r : SFits w32 c.low-bits.result = search rules in
+    let r : SFits w32 c.low_bits.result = search rules in
     let d : SFits w64 (c.args.luma -ℤ c.quarter.result) = e.1 in
-    to_z-of_z w32 _ r ∙ simp to_z-of_z at c.low-bits.ensures ∙ ap (λ z. int_wrap w32 (c.args.luma -ℤ z)) e.0
+    to_z-of_z w32 _ r ∙ simp to_z-of_z at c.low_bits.ensures ∙ ap (λ z. int_wrap w32 (c.args.luma -ℤ z)) e.0

@@ -14,8 +14,8 @@ returns-then-this-ne0 g c =
     let fa = c.ranges.a in
     let fb = c.ranges.b in
     let fd = c.ranges.c in
-    let m : SFits w32 c.middle-of-middle.result = search rules in
-    let e = simp to_z-of_z at c.middle-of-middle.ensures in
+    let m : SFits w32 c.middle_of-middle.result = search rules in
+    let e = simp to_z-of_z at c.middle_of-middle.ensures in
     let flag : not (eqb g.row.UNDO 0) ≡ true = not_from_false _ (ne_eqb _ _ c.if-this-ne0.true) in
     same-colours _ _ _ _ _ _
     (wrapping_add_is w32 d _ fd m ∙ ap (λ z. int_wrap w32 (d +ℤ z)) e)

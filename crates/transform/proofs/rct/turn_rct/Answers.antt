@@ -2,8 +2,8 @@ use Rattle.std.proofs.Common.{◌+◌, add-mul, arith}
 use Rattle.std.proofs.lemmas.Nat.{mul-le}
 use Rattle.transform.proofs.rct.turn_rct.Goals as goal
 
-pub recolour-all-requires : goal.recolour-all-requires
-recolour-all-requires g c =
+pub recolour_all-requires : goal.recolour_all-requires
+recolour_all-requires g c =
     let first = c.args.rct.now.first in
     let n = c.args.shape.now.samples in
     let one = add-mul first 1 n in

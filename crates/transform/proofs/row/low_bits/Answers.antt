@@ -7,5 +7,5 @@ use Rattle.transform.proofs.row.low_bits.Goals as goal
 pub returns : goal.returns
 returns c =
     let v : SFits w64 c.args.v = c.ranges.v in
-    let r : SFits w32 c.cast-signed.result = search rules in
-    to_z-of_z w32 _ r ∙ c.cast-signed.ensures ∙ ap (λ n. to_z w32 (bit_and n 4294967295)) (simp to_z-of_z at c.cast-unsigned.ensures) ∙ masked_wrapped c.args.v v
+    let r : SFits w32 c.cast_signed.result = search rules in
+    to_z-of_z w32 _ r ∙ c.cast_signed.ensures ∙ ap (λ n. to_z w32 (bit_and n 4294967295)) (simp to_z-of_z at c.cast_unsigned.ensures) ∙ masked_wrapped c.args.v v

@@ -1,4 +1,4 @@
-use Rattle.std.proofs.Common.{◌≡◌, ◌+◌, ◌^◌, ◌<◌, ◌≤◌, length, get_or, ℤ, pos, ◌+ℤ◌, ◌*ℤ◌, sym, ap, ◌∙◌, arith, w16, w32, w64, SFits, rules}
+use Rattle.std.proofs.Common.{◌+◌, ◌^◌, ◌<◌, ◌≤◌, length, get_or, pos, ◌+ℤ◌, ◌*ℤ◌, sym, ap, ◌∙◌, arith, w16, w32, w64, SFits, rules}
 use Rattle.std.proofs.lemmas.List.FromFn.{get_or-map-range_with_len}
 use Rattle.std.proofs.lemmas.List.{get_or-take, length-take}
 use Rattle.std.proofs.lemmas.Int.{ints, to_z-of_z}
@@ -11,8 +11,8 @@ use Rattle.transform.proofs.Rows.{reads_at}
 use Rattle.transform.proofs.Sums.{sum_more, sum_all}
 use Rattle.transform.proofs.row.quotient_at.Goals as goal
 
-pub overflow-add-sum : goal.overflow-add-sum
-overflow-add-sum g c = omega (arith, ints)
+pub overflow_add-sum : goal.overflow_add-sum
+overflow_add-sum g c = omega (arith, ints)
 
 pub loop-k-preserved : goal.loop-k-preserved
 loop-k-preserved g c =

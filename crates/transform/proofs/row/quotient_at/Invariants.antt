@@ -1,6 +1,4 @@
-use Rattle.std.proofs.Common.{◌≡◌, ◌+◌, ◌*◌, ◌^◌, map, get_or, drop, pos, ◌+ℤ◌, neg_ℤ, ◌≤ℤ◌}
-use Rattle.std.specs.List.{range_with_len}
-use Rattle.sets.specs.Areas.{at}
+use Rattle.std.proofs.Common.{◌≡◌, ◌+◌, ◌*◌, ◌^◌, drop, pos, ◌+ℤ◌, neg_ℤ, ◌≤ℤ◌}
 use Rattle.stages.specs.Plain.{taps_of}
 use Rattle.stages.specs.Quotients.{sum_of}
 use Rattle.transform.proofs.Rows.{reads_at}

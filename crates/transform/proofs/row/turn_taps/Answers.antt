@@ -11,10 +11,10 @@ loop-i-preserved g c =
     let undo = not (eqb g.row.UNDO 0) in
     let q = c.args.quotient.now in
     let i = c.loop-i.i in
-    let one = rowed-one-more undo q _ _ _ _ c.args.count (2 * i) c.loop-i.area c.requires.fitted.1 (omega arith) c.loop-i.invariant _ c.requires.fitted.0 c.turn-one.ensures.fits c.turn-one.ensures.set in
-    let two = rowed-one-more undo q _ _ _ _ c.args.count (2 * i + 1) c.turn-one.new.area c.requires.fitted.1 (omega arith) one _ c.requires.fitted.0 c.turn-one-in-loop-i.ensures.fits c.turn-one-in-loop-i.ensures.set in
+    let one = rowed-one-more undo q _ _ _ _ c.args.count (2 * i) c.loop-i.area c.requires.fitted.1 (omega arith) c.loop-i.invariant _ c.requires.fitted.0 c.turn_one.ensures.fits c.turn_one.ensures.set in
+    let two = rowed-one-more undo q _ _ _ _ c.args.count (2 * i + 1) c.turn_one.new.area c.requires.fitted.1 (omega arith) one _ c.requires.fitted.0 c.turn_one-in-loop-i.ensures.fits c.turn_one-in-loop-i.ensures.set in
     let next : 2 * i + 1 + 1 ≡ 2 * (i + 1) = omega arith in
-    subst (λ n. Rowed undo q c.args.to c.args.by n c.args.from.now c.args.area.now c.turn-one-in-loop-i.new.area) next two
+    subst (λ n. Rowed undo q c.args.to c.args.by n c.args.from.now c.args.area.now c.turn_one-in-loop-i.new.area) next two
 
 pub returns-then-count-eq1 : goal.returns-then-count-eq1
 returns-then-count-eq1 g c =
@@ -23,6 +23,6 @@ returns-then-count-eq1 g c =
     let n = c.args.count in
     let last : 2 * c.loop-i.i ≡ n - 1 = omega arith in
     let before = subst (λ k. Rowed undo q c.args.to c.args.by k c.args.from.now c.args.area.now c.loop-i.area) last c.loop-i.invariant in
-    let all = rowed-one-more undo q _ _ _ _ n (n - 1) c.loop-i.area c.requires.fitted.1 (omega arith) before _ c.requires.fitted.0 c.turn-one-then-count-eq1.ensures.fits c.turn-one-then-count-eq1.ensures.set in
+    let all = rowed-one-more undo q _ _ _ _ n (n - 1) c.loop-i.area c.requires.fitted.1 (omega arith) before _ c.requires.fitted.0 c.turn_one-then-count-eq1.ensures.fits c.turn_one-then-count-eq1.ensures.set in
     let whole : n - 1 + 1 ≡ n = omega arith in
-    subst (λ k. Rowed undo q c.args.to c.args.by k c.args.from.now c.args.area.now c.turn-one-then-count-eq1.new.area) whole all
+    subst (λ k. Rowed undo q c.args.to c.args.by k c.args.from.now c.args.area.now c.turn_one-then-count-eq1.new.area) whole all

@@ -14,7 +14,7 @@ loop-line-preserved g c =
     let t = c.args.turn.now in
     let ready = c.requires.ready.0 in
     runs_more t.shape (plain_lift t.lift) t.lines ready.lined c.requires.ready.1.0 t.parity (plain_step t.step) _ _
-    _ c.loop-line.line _ _ _ ready.fits ready.many ready.long c.loop-line.invariant c.turn-run.ensures
+    _ c.loop-line.line _ _ _ ready.fits ready.many ready.long c.loop-line.invariant c.turn_run.ensures
 
 pub returns : goal.returns
 returns g c =

@@ -10,6 +10,6 @@ returns c =
     let s = plain c.args.stage.now in
     let bs = rows_of c.args.spans.now in
     record {
-      answer = c.is-ok.ensures.value ∙ answer-made f s bs c.requires.shape c.requires.fit c.requires.many _ c.spans.ensures.answer;
+      answer = c.is_ok.ensures.value ∙ answer-made f s bs c.requires.shape c.requires.fit c.requires.many _ c.spans.ensures.answer;
       after = after-made f s bs c.requires.shape c.requires.fit c.requires.many _ c.spans.ensures.after;
     }
