@@ -1,4 +1,6 @@
 // Rack calls for C to time: on numbers and one area.
+#![tactic(auto)]
+
 ghost use Rattle.std.specs.Prelude.{◌≡◌, min};
 ghost use Rattle.sets.specs.Sets.{rows_of};
 ghost use Rattle.rack.specs.Calls.{Applies, Undoes};

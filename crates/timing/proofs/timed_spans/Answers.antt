@@ -1,4 +1,4 @@
-use Rattle.std.proofs.Common.{◌≡◌, ◌<◌, [], ◌∷◌, ◌++◌, length, pos, negsuc, is_ok, ap, ◌∙◌, arith}
+use Rattle.std.proofs.Common.{◌<◌, [], ◌∷◌, ◌++◌, length, pos, negsuc, is_ok, ap, ◌∙◌, arith}
 use Rattle.std.proofs.lemmas.List.{replicate-append-replicate, length-replicate}
 use Rattle.std.proofs.ResultArms.{chosen}
 use Rattle.std.proofs.lemmas.Bool.{cond-true, lt-ltb}
@@ -9,7 +9,7 @@ use Rattle.timing.proofs.timed_spans.Goals as goal
 pub loop-channel-preserved : goal.loop-channel-preserved
 loop-channel-preserved c =
     let b = between (negsuc 8388607) (pos 8388607) in
-    let n = c.loop-channel.-channel in
+    let n = c.loop-channel._channel in
     let few : length (rows_of c.loop-channel.spans) < 64 = omega (arith, ap length c.loop-channel.invariant ∙ length-replicate n b, c.loop-channel-test.true, c.min-channel-end.ensures) in
     chosen _ _ _ _ c.push.ensures.rows (ap is_ok (c.push.ensures.answer ∙ cond-true _ _ _ (lt-ltb _ 64 few)))
     ∙ ap (λ l. l ++ (b ∷ [])) c.loop-channel.invariant

@@ -4,4 +4,4 @@ use Rattle.stages.specs.Made.{between}
 use Rattle.timing.proofs.timed_spans.Given as goal
 
 abbrev pub invariant-loop-channel : goal.invariant-loop-channel
-invariant-loop-channel l = rows_of l.spans ≡ replicate l.-channel (between (negsuc 8388607) (pos 8388607))
+invariant-loop-channel l = rows_of l.spans ≡ replicate l._channel (between (negsuc 8388607) (pos 8388607))

@@ -7,4 +7,4 @@ use Rattle.timing.proofs.timing_apply.Goals as goal
 pub returns : goal.returns
 returns c =
     let Call : List Bounds → Type 0 = λ bs. Applies timed_rack (timed_shape c.args.channels c.args.samples) c.args.task bs c.args.area.now c.apply.result c.apply.new.area in
-    (c.apply.result, sym c.number-of.ensures, subst Call c.timed-spans-spans.ensures c.apply.ensures)
+    (c.apply.result, sym c.number_of.ensures, subst Call c.timed_spans-spans.ensures c.apply.ensures)

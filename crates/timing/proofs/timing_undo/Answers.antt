@@ -7,4 +7,4 @@ use Rattle.timing.proofs.timing_undo.Goals as goal
 pub returns : goal.returns
 returns c =
     let Call : List Bounds → Type 0 = λ bs. Undoes timed_rack (timed_shape c.args.channels c.args.samples) c.args.task bs c.args.area.now c.undo.result c.undo.new.area in
-    (c.undo.result, sym c.number-of.ensures, subst Call c.timed-spans-spans.ensures c.undo.ensures)
+    (c.undo.result, sym c.number_of.ensures, subst Call c.timed_spans-spans.ensures c.undo.ensures)
