@@ -8,7 +8,7 @@ use Rattle.recipe.proofs.Alike.{alike_requests}
 use Rattle.recipe.proofs.Cuts.{Free}
 use Rattle.recipe.proofs.Reports.{too_long, no_line, set_wrong, set_right, answers_err, answers_ok, answered-err}
 use Rattle.recipe.proofs.ask.set_and_recipe.Goals as goal
-use Rattle.recipe.proofs.ask.set_and_recipe.Goals.{In-ok-asked, at·returns-in-err-fill, at·returns}
+use Rattle.recipe.proofs.ask.set_and_recipe.Goals.{In-ok-asked, at·returns-in_err-fill, at·returns}
 
 -- the set is right, so the recipe decides
 past-set : (c : In-ok-asked) → requested c.args.text.now ≡ asked (fields_of (take c.find-end.result c.args.text.now)) (read_from begun 2 (lines_of (drop (c.find-end.result + 1) c.args.text.now)) (tail_of (drop (c.find-end.result + 1) c.args.text.now)))
@@ -25,18 +25,18 @@ returns-then-end-text c =
     let free : Free 10 t (length t) = λ k h. c.find-end.ensures.before k (omega arith) in
     sym (no_line t c.if-text-gt65536.false free)
 
-pub returns-in-err-asked : goal.returns-in-err-asked
-returns-in-err-asked c =
+pub returns-in_err-asked : goal.returns-in_err-asked
+returns-in_err-asked c =
     let found = c.find-end.ensures in
-    answered-err c.from-residual.result _ _ (err_from_is_err_and c.from-residual.result c.from-residual.ensures.1)
+    answered-err c.from_residual.result _ _ (err_from_is_err_and c.from_residual.result c.from_residual.ensures.1)
     (set_wrong c.args.text.now c.if-text-gt65536.false c.find-end.result (omega arith) found.before (found.found (omega arith)) _ c.in-err-asked.ensures)
 
-pub returns-in-err-fill : goal.returns-in-err-fill
-returns-in-err-fill c =
+pub returns-in_err-fill : goal.returns-in_err-fill
+returns-in_err-fill c =
     let t = c.args.text.now in
     let h = simp take_rest at c.in-err-fill.ensures in
-    answered-err c.from-residual-in-err-fill.result _ _ (err_from_is_err_and c.from-residual-in-err-fill.result c.from-residual-in-err-fill.ensures.1)
-    (past-set (at·returns-in-err-fill c).In-ok-asked ∙ ap (asked (fields_of (take c.find-end.result t))) (answers_err _ _ _ h))
+    answered-err c.from_residual-in_err-fill.result _ _ (err_from_is_err_and c.from_residual-in_err-fill.result c.from_residual-in_err-fill.ensures.1)
+    (past-set (at·returns-in_err-fill c).In-ok-asked ∙ ap (asked (fields_of (take c.find-end.result t))) (answers_err _ _ _ h))
 
 pub returns : goal.returns
 returns c =

@@ -6,7 +6,7 @@ use Rattle.recipe.specs.Rules.{between, set, first_wrong}
 use Rattle.recipe.proofs.Alike.{alike_shapes, alike_bounds}
 use Rattle.recipe.proofs.Faults.{past, rule_right, rule_wrong, judged_err}
 use Rattle.recipe.proofs.ask.set_line.Goals as goal
-use Rattle.recipe.proofs.ask.set_line.Goals.{In-ok-channels, In-ok-samples, In-ok-origin, In-ok-least, at·returns-in-err-samples, at·returns-in-err-origin, at·returns-in-err-least, at·returns-in-err-greatest, at·returns}
+use Rattle.recipe.proofs.ask.set_line.Goals.{In-ok-channels, In-ok-samples, In-ok-origin, In-ok-least, at·returns-in_err-samples, at·returns-in_err-origin, at·returns-in_err-least, at·returns-in_err-greatest, at·returns}
 
 -- each field past which the reading came
 past-channels : (c : In-ok-channels) → past set 0 c.args.line.now ≡ past set 1 c.args.line.now
@@ -28,33 +28,33 @@ by_least c =
     let fits : SFits w32 c.in-ok-least.least = search rules in
     ap (λ z. first_wrong line.number (fields_in line) 5 (between z (pos 2147483647) ∷ [])) (sym (to_z-of_z w32 _ fits ∙ c.in-ok-least.ensures.1.is))
 
-pub returns-in-err-channels : goal.returns-in-err-channels
-returns-in-err-channels c =
-    judged_err _ _ c.from-residual.result _ (err_from_is_err_and c.from-residual.result c.from-residual.ensures.1)
+pub returns-in_err-channels : goal.returns-in_err-channels
+returns-in_err-channels c =
+    judged_err _ _ c.from_residual.result _ (err_from_is_err_and c.from_residual.result c.from_residual.ensures.1)
     (rule_wrong _ _ 1 _ _ _ c.in-err-channels.ensures)
 
-pub returns-in-err-samples : goal.returns-in-err-samples
-returns-in-err-samples c =
-    let so = at·returns-in-err-samples c in
-    judged_err _ _ c.from-residual-in-err-samples.result _ (err_from_is_err_and c.from-residual-in-err-samples.result c.from-residual-in-err-samples.ensures.1)
+pub returns-in_err-samples : goal.returns-in_err-samples
+returns-in_err-samples c =
+    let so = at·returns-in_err-samples c in
+    judged_err _ _ c.from_residual-in_err-samples.result _ (err_from_is_err_and c.from_residual-in_err-samples.result c.from_residual-in_err-samples.ensures.1)
     (past-channels so.In-Continue-channels ∙ rule_wrong _ _ 2 _ _ _ c.in-err-samples.ensures)
 
-pub returns-in-err-origin : goal.returns-in-err-origin
-returns-in-err-origin c =
-    let so = at·returns-in-err-origin c in
-    judged_err _ _ c.from-residual-in-err-origin.result _ (err_from_is_err_and c.from-residual-in-err-origin.result c.from-residual-in-err-origin.ensures.1)
+pub returns-in_err-origin : goal.returns-in_err-origin
+returns-in_err-origin c =
+    let so = at·returns-in_err-origin c in
+    judged_err _ _ c.from_residual-in_err-origin.result _ (err_from_is_err_and c.from_residual-in_err-origin.result c.from_residual-in_err-origin.ensures.1)
     (past-channels so.In-Continue-channels ∙ past-samples so.In-Continue-samples ∙ rule_wrong _ _ 3 _ _ _ c.in-err-origin.ensures)
 
-pub returns-in-err-least : goal.returns-in-err-least
-returns-in-err-least c =
-    let so = at·returns-in-err-least c in
-    judged_err _ _ c.from-residual-in-err-least.result _ (err_from_is_err_and c.from-residual-in-err-least.result c.from-residual-in-err-least.ensures.1)
+pub returns-in_err-least : goal.returns-in_err-least
+returns-in_err-least c =
+    let so = at·returns-in_err-least c in
+    judged_err _ _ c.from_residual-in_err-least.result _ (err_from_is_err_and c.from_residual-in_err-least.result c.from_residual-in_err-least.ensures.1)
     (past-channels so.In-Continue-channels ∙ past-samples so.In-Continue-samples ∙ past-origin so.In-Continue-origin ∙ rule_wrong _ _ 4 _ _ _ c.in-err-least.ensures)
 
-pub returns-in-err-greatest : goal.returns-in-err-greatest
-returns-in-err-greatest c =
-    let so = at·returns-in-err-greatest c in
-    judged_err _ _ c.from-residual-in-err-greatest.result _ (err_from_is_err_and c.from-residual-in-err-greatest.result c.from-residual-in-err-greatest.ensures.1)
+pub returns-in_err-greatest : goal.returns-in_err-greatest
+returns-in_err-greatest c =
+    let so = at·returns-in_err-greatest c in
+    judged_err _ _ c.from_residual-in_err-greatest.result _ (err_from_is_err_and c.from_residual-in_err-greatest.result c.from_residual-in_err-greatest.ensures.1)
     (past-channels so.In-Continue-channels ∙ past-samples so.In-Continue-samples ∙ past-origin so.In-Continue-origin ∙ past-least so.In-Continue-least ∙ by_least so.In-Continue-least ∙ c.in-err-greatest.ensures)
 
 pub returns : goal.returns

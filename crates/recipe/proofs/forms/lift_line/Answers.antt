@@ -10,7 +10,7 @@ use Rattle.recipe.proofs.Alike.{alike_lifts}
 use Rattle.recipe.proofs.Faults.{past, rule_right, rule_wrong, first_wrong-none, judged_err}
 use Rattle.recipe.proofs.Limits.{rest_limit}
 use Rattle.recipe.proofs.forms.lift_line.Goals as goal
-use Rattle.recipe.proofs.forms.lift_line.Goals.{In-ok-time, In-ok-first, In-ok-count, In-ok-level, In-ok-mirrored, In-ok-odd, In-ok-left, at·returns-in-err-first, at·returns-in-err-count, at·returns-in-err-level, at·returns-in-err-mirrored, at·returns-in-err-odd, at·returns-in-err-left, at·returns}
+use Rattle.recipe.proofs.forms.lift_line.Goals.{In-ok-time, In-ok-first, In-ok-count, In-ok-level, In-ok-mirrored, In-ok-odd, In-ok-left, at·returns-in_err-first, at·returns-in_err-count, at·returns-in_err-level, at·returns-in_err-mirrored, at·returns-in_err-odd, at·returns-in_err-left, at·returns}
 
 -- the limit of the count
 by_rest : (c : In-ok-first) → past lift 2 c.args.line.now ≡ first_wrong c.args.line.now.number (fields_in c.args.line.now) 3 (between (pos 1) (pos (64 - c.in-ok-first.first)) ∷ drop 3 (rules_of lift (fields_in c.args.line.now)))
@@ -41,45 +41,45 @@ past-odd c = rule_right _ _ 6 _ _ c.in-ok-odd.ensures.0
 past-left : (c : In-ok-left) → past lift 6 c.args.line.now ≡ past lift 7 c.args.line.now
 past-left c = rule_right _ _ 7 _ _ c.in-ok-left.ensures.0
 
-pub returns-in-err-time : goal.returns-in-err-time
-returns-in-err-time c =
-    judged_err _ _ c.from-residual.result _ (err_from_is_err_and c.from-residual.result c.from-residual.ensures.1)
+pub returns-in_err-time : goal.returns-in_err-time
+returns-in_err-time c =
+    judged_err _ _ c.from_residual.result _ (err_from_is_err_and c.from_residual.result c.from_residual.ensures.1)
     (rule_wrong _ _ 1 _ _ _ c.in-err-time.ensures)
 
-pub returns-in-err-first : goal.returns-in-err-first
-returns-in-err-first c =
-    let so = at·returns-in-err-first c in
-    judged_err _ _ c.from-residual-in-err-first.result _ (err_from_is_err_and c.from-residual-in-err-first.result c.from-residual-in-err-first.ensures.1)
+pub returns-in_err-first : goal.returns-in_err-first
+returns-in_err-first c =
+    let so = at·returns-in_err-first c in
+    judged_err _ _ c.from_residual-in_err-first.result _ (err_from_is_err_and c.from_residual-in_err-first.result c.from_residual-in_err-first.ensures.1)
     (past-time so.In-Continue-time ∙ rule_wrong _ _ 2 _ _ _ c.in-err-first.ensures)
 
-pub returns-in-err-count : goal.returns-in-err-count
-returns-in-err-count c =
-    let so = at·returns-in-err-count c in
-    judged_err _ _ c.from-residual-in-err-count.result _ (err_from_is_err_and c.from-residual-in-err-count.result c.from-residual-in-err-count.ensures.1)
+pub returns-in_err-count : goal.returns-in_err-count
+returns-in_err-count c =
+    let so = at·returns-in_err-count c in
+    judged_err _ _ c.from_residual-in_err-count.result _ (err_from_is_err_and c.from_residual-in_err-count.result c.from_residual-in_err-count.ensures.1)
     (past-time so.In-Continue-time ∙ past_first so.In-Continue-first ∙ by_rest so.In-Continue-first ∙ rule_wrong _ _ 3 _ _ _ c.in-err-count.ensures)
 
-pub returns-in-err-level : goal.returns-in-err-level
-returns-in-err-level c =
-    let so = at·returns-in-err-level c in
-    judged_err _ _ c.from-residual-in-err-level.result _ (err_from_is_err_and c.from-residual-in-err-level.result c.from-residual-in-err-level.ensures.1)
+pub returns-in_err-level : goal.returns-in_err-level
+returns-in_err-level c =
+    let so = at·returns-in_err-level c in
+    judged_err _ _ c.from_residual-in_err-level.result _ (err_from_is_err_and c.from_residual-in_err-level.result c.from_residual-in_err-level.ensures.1)
     (past-time so.In-Continue-time ∙ past_first so.In-Continue-first ∙ by_rest so.In-Continue-first ∙ past-count so.In-Continue-count ∙ rule_wrong _ _ 4 _ _ _ c.in-err-level.ensures)
 
-pub returns-in-err-mirrored : goal.returns-in-err-mirrored
-returns-in-err-mirrored c =
-    let so = at·returns-in-err-mirrored c in
-    judged_err _ _ c.from-residual-in-err-mirrored.result _ (err_from_is_err_and c.from-residual-in-err-mirrored.result c.from-residual-in-err-mirrored.ensures.1)
+pub returns-in_err-mirrored : goal.returns-in_err-mirrored
+returns-in_err-mirrored c =
+    let so = at·returns-in_err-mirrored c in
+    judged_err _ _ c.from_residual-in_err-mirrored.result _ (err_from_is_err_and c.from_residual-in_err-mirrored.result c.from_residual-in_err-mirrored.ensures.1)
     (past-time so.In-Continue-time ∙ past_first so.In-Continue-first ∙ by_rest so.In-Continue-first ∙ past-count so.In-Continue-count ∙ past-level so.In-Continue-level ∙ rule_wrong _ _ 5 _ _ _ c.in-err-mirrored.ensures)
 
-pub returns-in-err-odd : goal.returns-in-err-odd
-returns-in-err-odd c =
-    let so = at·returns-in-err-odd c in
-    judged_err _ _ c.from-residual-in-err-odd.result _ (err_from_is_err_and c.from-residual-in-err-odd.result c.from-residual-in-err-odd.ensures.1)
+pub returns-in_err-odd : goal.returns-in_err-odd
+returns-in_err-odd c =
+    let so = at·returns-in_err-odd c in
+    judged_err _ _ c.from_residual-in_err-odd.result _ (err_from_is_err_and c.from_residual-in_err-odd.result c.from_residual-in_err-odd.ensures.1)
     (past-time so.In-Continue-time ∙ past_first so.In-Continue-first ∙ by_rest so.In-Continue-first ∙ past-count so.In-Continue-count ∙ past-level so.In-Continue-level ∙ past-mirrored so.In-Continue-mirrored ∙ rule_wrong _ _ 6 _ _ _ c.in-err-odd.ensures)
 
-pub returns-in-err-left : goal.returns-in-err-left
-returns-in-err-left c =
-    let so = at·returns-in-err-left c in
-    judged_err _ _ c.from-residual-in-err-left.result _ (err_from_is_err_and c.from-residual-in-err-left.result c.from-residual-in-err-left.ensures.1)
+pub returns-in_err-left : goal.returns-in_err-left
+returns-in_err-left c =
+    let so = at·returns-in_err-left c in
+    judged_err _ _ c.from_residual-in_err-left.result _ (err_from_is_err_and c.from_residual-in_err-left.result c.from_residual-in_err-left.ensures.1)
     (past-time so.In-Continue-time ∙ past_first so.In-Continue-first ∙ by_rest so.In-Continue-first ∙ past-count so.In-Continue-count ∙ past-level so.In-Continue-level ∙ past-mirrored so.In-Continue-mirrored ∙ past-odd so.In-Continue-odd ∙ rule_wrong _ _ 7 _ _ _ c.in-err-left.ensures)
 
 pub returns : goal.returns

@@ -8,20 +8,20 @@ use Rattle.recipe.specs.Rules.{row}
 use Rattle.recipe.proofs.Alike.{alike_rows}
 use Rattle.recipe.proofs.Faults.{past, rule_right, rule_wrong, judged_err}
 use Rattle.recipe.proofs.forms.row_line.Goals as goal
-use Rattle.recipe.proofs.forms.row_line.Goals.{In-ok-exponent, at·returns-in-err-taps, at·returns}
+use Rattle.recipe.proofs.forms.row_line.Goals.{In-ok-exponent, at·returns-in_err-taps, at·returns}
 
 past-exponent : (c : In-ok-exponent) → past (row c.args.i) 0 c.args.line.now ≡ past (row c.args.i) 1 c.args.line.now
 past-exponent c = rule_right _ _ 1 _ _ c.in-ok-exponent.ensures.0
 
-pub returns-in-err-exponent : goal.returns-in-err-exponent
-returns-in-err-exponent c =
-    judged_err _ _ c.from-residual.result _ (err_from_is_err_and c.from-residual.result c.from-residual.ensures.1)
+pub returns-in_err-exponent : goal.returns-in_err-exponent
+returns-in_err-exponent c =
+    judged_err _ _ c.from_residual.result _ (err_from_is_err_and c.from_residual.result c.from_residual.ensures.1)
     (rule_wrong _ _ 1 _ _ _ c.in-err-exponent.ensures)
 
-pub returns-in-err-taps : goal.returns-in-err-taps
-returns-in-err-taps c =
-    judged_err _ _ c.from-residual-in-err-taps.result _ (err_from_is_err_and c.from-residual-in-err-taps.result c.from-residual-in-err-taps.ensures.1)
-    (past-exponent (at·returns-in-err-taps c).In-ok-exponent ∙ c.in-err-taps.ensures)
+pub returns-in_err-taps : goal.returns-in_err-taps
+returns-in_err-taps c =
+    judged_err _ _ c.from_residual-in_err-taps.result _ (err_from_is_err_and c.from_residual-in_err-taps.result c.from_residual-in_err-taps.ensures.1)
+    (past-exponent (at·returns-in_err-taps c).In-ok-exponent ∙ c.in-err-taps.ensures)
 
 pub returns : goal.returns
 returns c =

@@ -7,7 +7,7 @@ use Rattle.recipe.specs.Rules.{step, tap_rule, first_wrong}
 use Rattle.recipe.proofs.Alike.{alike_steps}
 use Rattle.recipe.proofs.Faults.{past, rule_right, rule_wrong, judged_err}
 use Rattle.recipe.proofs.forms.step_line.Goals as goal
-use Rattle.recipe.proofs.forms.step_line.Goals.{In-ok-offset, In-ok-exponent, In-ok-residue, at·returns-in-err-exponent, at·returns-in-err-residue, at·returns-in-err-taps, at·returns}
+use Rattle.recipe.proofs.forms.step_line.Goals.{In-ok-offset, In-ok-exponent, In-ok-residue, at·returns-in_err-exponent, at·returns-in_err-residue, at·returns-in_err-taps, at·returns}
 
 past-offset : (c : In-ok-offset) → past step 0 c.args.line.now ≡ past step 1 c.args.line.now
 past-offset c = rule_right _ _ 1 _ _ c.in-ok-offset.ensures.0
@@ -25,27 +25,27 @@ by_taps c =
     let n : length (fields_in line) - 4 ≡ c.args.n = omega arith in
     ap (λ m. first_wrong line.number (fields_in line) 4 (replicate m tap_rule)) n
 
-pub returns-in-err-offset : goal.returns-in-err-offset
-returns-in-err-offset c =
-    judged_err _ _ c.from-residual.result _ (err_from_is_err_and c.from-residual.result c.from-residual.ensures.1)
+pub returns-in_err-offset : goal.returns-in_err-offset
+returns-in_err-offset c =
+    judged_err _ _ c.from_residual.result _ (err_from_is_err_and c.from_residual.result c.from_residual.ensures.1)
     (rule_wrong _ _ 1 _ _ _ c.in-err-offset.ensures)
 
-pub returns-in-err-exponent : goal.returns-in-err-exponent
-returns-in-err-exponent c =
-    let so = at·returns-in-err-exponent c in
-    judged_err _ _ c.from-residual-in-err-exponent.result _ (err_from_is_err_and c.from-residual-in-err-exponent.result c.from-residual-in-err-exponent.ensures.1)
+pub returns-in_err-exponent : goal.returns-in_err-exponent
+returns-in_err-exponent c =
+    let so = at·returns-in_err-exponent c in
+    judged_err _ _ c.from_residual-in_err-exponent.result _ (err_from_is_err_and c.from_residual-in_err-exponent.result c.from_residual-in_err-exponent.ensures.1)
     (past-offset so.In-Continue-offset ∙ rule_wrong _ _ 2 _ _ _ c.in-err-exponent.ensures)
 
-pub returns-in-err-residue : goal.returns-in-err-residue
-returns-in-err-residue c =
-    let so = at·returns-in-err-residue c in
-    judged_err _ _ c.from-residual-in-err-residue.result _ (err_from_is_err_and c.from-residual-in-err-residue.result c.from-residual-in-err-residue.ensures.1)
+pub returns-in_err-residue : goal.returns-in_err-residue
+returns-in_err-residue c =
+    let so = at·returns-in_err-residue c in
+    judged_err _ _ c.from_residual-in_err-residue.result _ (err_from_is_err_and c.from_residual-in_err-residue.result c.from_residual-in_err-residue.ensures.1)
     (past-offset so.In-Continue-offset ∙ past-exponent so.In-Continue-exponent ∙ rule_wrong _ _ 3 _ _ _ c.in-err-residue.ensures)
 
-pub returns-in-err-taps : goal.returns-in-err-taps
-returns-in-err-taps c =
-    let so = at·returns-in-err-taps c in
-    judged_err _ _ c.from-residual-in-err-taps.result _ (err_from_is_err_and c.from-residual-in-err-taps.result c.from-residual-in-err-taps.ensures.1)
+pub returns-in_err-taps : goal.returns-in_err-taps
+returns-in_err-taps c =
+    let so = at·returns-in_err-taps c in
+    judged_err _ _ c.from_residual-in_err-taps.result _ (err_from_is_err_and c.from_residual-in_err-taps.result c.from_residual-in_err-taps.ensures.1)
     (past-offset so.In-Continue-offset ∙ past-exponent so.In-Continue-exponent ∙ past-residue so.In-Continue-residue ∙ by_taps so.In-Continue-residue ∙ c.in-err-taps.ensures)
 
 pub returns : goal.returns

@@ -8,10 +8,10 @@ use Rattle.recipe.proofs.Faults.{judged_err, first_wrong-none}
 use Rattle.recipe.proofs.TapRules.{rules_next, rules_wrong, numbers_more}
 use Rattle.recipe.proofs.forms.taps.Goals as goal
 
-pub returns-in-err-tap : goal.returns-in-err-tap
-returns-in-err-tap c =
+pub returns-in_err-tap : goal.returns-in_err-tap
+returns-in_err-tap c =
     let line = c.args.line.now in
-    judged_err _ _ c.from-residual.result _ (err_from_is_err_and c.from-residual.result c.from-residual.ensures.1)
+    judged_err _ _ c.from_residual.result _ (err_from_is_err_and c.from_residual.result c.from_residual.ensures.1)
     (c.loop-i.invariant.2 ∙ rules_wrong line.number (fields_in line) c.args.from c.args.n c.loop-i.i tap_rule c.loop-i-test.true _ c.in-err-tap.ensures)
 
 pub loop-i-preserved : goal.loop-i-preserved

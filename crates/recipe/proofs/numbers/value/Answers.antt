@@ -7,11 +7,11 @@ use Rattle.recipe.proofs.numbers.value.Goals as goal
 pub bounds-number-0 : goal.bounds-number-0
 bounds-number-0 c = number-some c.args.number.now c.requires
 
-pub slice-bounds-magnitude-count : goal.slice-bounds-magnitude-count
-slice-bounds-magnitude-count c = number-some c.args.number.now c.requires
+pub slice_bounds-magnitude-count : goal.slice_bounds-magnitude-count
+slice_bounds-magnitude-count c = number-some c.args.number.now c.requires
 
-pub slice-bounds-magnitude-start : goal.slice-bounds-magnitude-start
-slice-bounds-magnitude-start c = number-some c.args.number.now c.requires
+pub slice_bounds-magnitude-start : goal.slice_bounds-magnitude-start
+slice_bounds-magnitude-start c = number-some c.args.number.now c.requires
 
 pub magnitude-requires : goal.magnitude-requires
 magnitude-requires c = rw (take_rest c.args.number.now 1) (digits_behind c.args.number.now c.requires c.if-number-eq45.true)

@@ -5,8 +5,8 @@ use Rattle.recipe.specs.Rules.{same, field, listed}
 use Rattle.recipe.proofs.Faults.{first_wrong-here, listed_right, shown_no_word, same_read, wrong-no-word, wrong-not-listed}
 use Rattle.recipe.proofs.line.Line.choice.Goals as goal
 
-pub returns-in-default : goal.returns-in-default
-returns-in-default c =
+pub returns-in_default : goal.returns-in_default
+returns-in_default c =
     let line = c.args.self.now in
     first_wrong-here line.number (fields_of line.bytes.now) c.args.k (listed (c.args.first.now ∷ c.args.second.now ∷ [])) [] _
     (wrong-no-word _ _ (shown_no_word c.field.result _ c.field.ensures c.in_default.not-Word))

@@ -5,8 +5,8 @@ use Rattle.recipe.specs.Rules.{between}
 use Rattle.recipe.proofs.Faults.{first_wrong-here, shown_no_number, wrong-no-number, within-right, outside_wrong}
 use Rattle.recipe.proofs.line.Line.number.Goals as goal
 
-pub returns-in-default : goal.returns-in-default
-returns-in-default c =
+pub returns-in_default : goal.returns-in_default
+returns-in_default c =
     let line = c.args.self.now in
     first_wrong-here line.number (fields_of line.bytes.now) c.args.k (between c.args.least c.args.greatest) [] _
     (wrong-no-number _ _ _ (shown_no_number c.field.result _ c.field.ensures c.in_default.not-Number))

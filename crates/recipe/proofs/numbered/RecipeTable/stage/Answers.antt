@@ -5,8 +5,8 @@ use Rattle.stages.specs.Plain.{plain, rct}
 use Rattle.recipe.proofs.Handed.{table_at, nth_inside}
 use Rattle.recipe.proofs.numbered.RecipeTable.stage.Goals as goal
 
-pub returns-in-default : goal.returns-in-default
-returns-in-default c =
+pub returns-in_default : goal.returns-in_default
+returns-in_default c =
     let ss = stages_of c.args.self.now in
     absurd (nth_inside ss c.args.number (omega (arith, length-map ss plain)) (sym c.get.ensures ∙ c.in_default.is))
 

@@ -16,8 +16,8 @@ before c =
 room : (c : In-Dep) → (c.in-Dep.dep.count - 1 + 1 ≤ 7) × (c.in-Dep.dep.first + (c.in-Dep.dep.count - 1) + 1 ≤ 63)
 room c = room_dep c.in-Dep.dep 1 (fits_last 1 _ _ _ (before c) c.requires)
 
-pub returns-in-default : goal.returns-in-default
-returns-in-default c =
+pub returns-in_default : goal.returns-in_default
+returns-in_default c =
     let r = c.args.self.now in
     let s = get_or r.stages (r.len - 1) c.index-self-self.result in
     let e = last_of r.stages r.len c.index-self-self.result (omega arith) (omega arith) in
@@ -29,8 +29,8 @@ listed-2 c = omega (arith, room (at·listed-2 c).In-Dep)
 pub bounds-dep-dep : goal.bounds-dep-dep
 bounds-dep-dep c = omega (arith, room (at·index-dep-dep c).In-Dep)
 
-pub invariant-of-dep : goal.invariant-of-dep
-invariant-of-dep c =
+pub invariant_of-dep : goal.invariant_of-dep
+invariant_of-dep c =
     let d = c.in-Dep.dep in
     let h = room (at·ghost-dep c).In-Dep in
     (omega arith, (omega arith, (omega arith, (simp length-set d.full, tt))))

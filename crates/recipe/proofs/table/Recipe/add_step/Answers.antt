@@ -17,8 +17,8 @@ before c =
 room : (c : In-Lift) → c.in-Lift.lift.step_count + 1 ≤ 4
 room c = room_lift c.in-Lift.lift 1 (fits_last 1 _ _ _ (before c) c.requires)
 
-pub returns-in-default : goal.returns-in-default
-returns-in-default c =
+pub returns-in_default : goal.returns-in_default
+returns-in_default c =
     let r = c.args.self.now in
     let s = get_or r.stages (r.len - 1) c.index-self-self.result in
     let e = last_of r.stages r.len c.index-self-self.result (omega arith) (omega arith) in
@@ -30,8 +30,8 @@ listed-2 c = omega (arith, room c)
 pub bounds-lift-lift : goal.bounds-lift-lift
 bounds-lift-lift c = omega (arith, room c)
 
-pub invariant-of-lift : goal.invariant-of-lift
-invariant-of-lift c =
+pub invariant_of-lift : goal.invariant_of-lift
+invariant_of-lift c =
     let l = c.in-Lift.lift in
     (l.inside, (l.shallow, (simp length-set l.full, (room (at·ghost-lift c).In-Lift, tt))))
 

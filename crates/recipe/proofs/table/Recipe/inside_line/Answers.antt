@@ -26,11 +26,11 @@ row_fault c = inside_fault _ c.requires.0 _ _ _ (codes "ROW") (row c.in-Dep.dep.
 
 pub returns-in-err-step : goal.returns-in-err-step
 returns-in-err-step c =
-    judged_err _ _ c.from-residual.result _ (err_from_is_err_and c.from-residual.result c.from-residual.ensures.1)
+    judged_err _ _ c.from_residual.result _ (err_from_is_err_and c.from_residual.result c.from_residual.ensures.1)
     (step-fault (at·returns-in-err-step c).In-Lift ∙ c.in-err-step.ensures)
 
-pub row-due-requires : goal.row-due-requires
-row-due-requires c =
+pub row_due-requires : goal.row_due-requires
+row_due-requires c =
     let h = room_dep c.in-Dep.dep c.args.left (fits-at-hand c.args.self.now c.args.left c.requires.0 c.requires.1 _ _ c.in-Dep.is) in
     omega arith
 
@@ -45,11 +45,11 @@ returns-in-ok-step c =
     let done = c.in-ok-step.ensures in
     let ts = table_of c.args.self.now in
     let due = c.requires.0 in
-    let n : length (table_of c.add-step.new.self) ≡ length ts = ap length c.add-step.ensures ∙ length-with_step _ ts in (
+    let n : length (table_of c.add_step.new.self) ≡ length ts = ap length c.add_step.ensures ∙ length-with_step _ ts in (
       step-fault so ∙ done.0,
       record {
-        is = inside_taken _ c.requires.0 _ _ _ (codes "STEP") step (lift_at_hand so) (step-form c.in-Lift.field-0) done.0 ∙ ap (sofar (c.args.left - 1)) (ap (λ x. with_step x ts) (sym done.1) ∙ sym c.add-step.ensures);
-        fits = subst (λ us. LinesFit (at_hand us) (c.args.left - 1)) (sym c.add-step.ensures) (fits-step _ ts _ _ c.args.left (ends c.args.self.now c.args.left c.requires.0 c.requires.1 _ _ c.in-Lift.is) c.requires.0 (fits-at-hand c.args.self.now c.args.left c.requires.0 c.requires.1 _ _ c.in-Lift.is));
+        is = inside_taken _ c.requires.0 _ _ _ (codes "STEP") step (lift_at_hand so) (step-form c.in-Lift.field-0) done.0 ∙ ap (sofar (c.args.left - 1)) (ap (λ x. with_step x ts) (sym done.1) ∙ sym c.add_step.ensures);
+        fits = subst (λ us. LinesFit (at_hand us) (c.args.left - 1)) (sym c.add_step.ensures) (fits-step _ ts _ _ c.args.left (ends c.args.self.now c.args.left c.requires.0 c.requires.1 _ _ c.in-Lift.is) c.requires.0 (fits-at-hand c.args.self.now c.args.left c.requires.0 c.requires.1 _ _ c.in-Lift.is));
         fewer = omega arith;
       },
     )
@@ -60,11 +60,11 @@ returns-in-ok-row c =
     let done = c.in-ok-row.ensures in
     let ts = table_of c.args.self.now in
     let due = c.requires.0 in
-    let n : length (table_of c.add-row.new.self) ≡ length ts = ap length c.add-row.ensures ∙ length-with_row _ ts in (
+    let n : length (table_of c.add_row.new.self) ≡ length ts = ap length c.add_row.ensures ∙ length-with_row _ ts in (
       row_fault so ∙ done.0,
       record {
-        is = inside_taken _ c.requires.0 _ _ _ (codes "ROW") (row c.in-Dep.dep.count) (dep_at_hand so) (row_form c.in-Dep.dep) done.0 ∙ ap (sofar (c.args.left - 1)) (ap (λ x. with_row x ts) (sym done.1) ∙ sym c.add-row.ensures);
-        fits = subst (λ us. LinesFit (at_hand us) (c.args.left - 1)) (sym c.add-row.ensures) (fits-row _ ts _ _ c.args.left (ends c.args.self.now c.args.left c.requires.0 c.requires.1 _ _ c.in-Dep.is) c.requires.0 (fits-at-hand c.args.self.now c.args.left c.requires.0 c.requires.1 _ _ c.in-Dep.is));
+        is = inside_taken _ c.requires.0 _ _ _ (codes "ROW") (row c.in-Dep.dep.count) (dep_at_hand so) (row_form c.in-Dep.dep) done.0 ∙ ap (sofar (c.args.left - 1)) (ap (λ x. with_row x ts) (sym done.1) ∙ sym c.add_row.ensures);
+        fits = subst (λ us. LinesFit (at_hand us) (c.args.left - 1)) (sym c.add_row.ensures) (fits-row _ ts _ _ c.args.left (ends c.args.self.now c.args.left c.requires.0 c.requires.1 _ _ c.in-Dep.is) c.requires.0 (fits-at-hand c.args.self.now c.args.left c.requires.0 c.requires.1 _ _ c.in-Dep.is));
         fewer = omega arith;
       },
     )

@@ -14,14 +14,14 @@ use Rattle.recipe.proofs.table.Recipe.take_lines.Goals.{Then-end-rest, at·retur
 no_more : (c : Then-end-rest) → Free 10 c.loop-rest.rest.now (length c.loop-rest.rest.now)
 no_more c = λ k h. c.find-end.ensures.before k (omega arith)
 
-pub returns-in-err-left : goal.returns-in-err-left
-returns-in-err-left c =
+pub returns-in_err-left : goal.returns-in_err-left
+returns-in_err-left c =
     let found = c.find-end.ensures in
-    reads_err _ _ c.from-residual.result _ (err_from_is_err_and c.from-residual.result c.from-residual.ensures.1)
+    reads_err _ _ c.from_residual.result _ (err_from_is_err_and c.from_residual.result c.from_residual.ensures.1)
     (c.loop-rest.invariant.3 ∙ read_fault c.loop-rest.rest.now c.find-end.result (omega arith) found.before (found.found (omega arith)) _ _ _ c.in-err-left.ensures)
 
-pub overflow-add-number : goal.overflow-add-number
-overflow-add-number c =
+pub overflow_add-number : goal.overflow_add-number
+overflow_add-number c =
     let r = c.loop-rest.self in
     let full = r.full in
     let small : c.loop-rest.number + 1 < 200 = omega (arith, length-map (stages_of r) plain, length-take r.len r.stages) in
