@@ -1,7 +1,7 @@
 -- What is wrong with a field, and the first field that is.
-use Rattle.std.proofs.Common.{◌≡◌, ℕ, ◌+◌, Bool, true, false, cond, ◌&&◌, List, [], ◌∷◌, drop, ℤ, Some, None, Err, Decides, Option, Result, sym, refl, ap, ◌∙◌, subst, inl, inr, arith, Bor, rules}
+use Rattle.std.proofs.Common.{◌≡◌, ℕ, ◌+◌, Bool, true, false, cond, ◌&&◌, List, [], ◌∷◌, drop, ℤ, Some, None, Err, Decides, Option, Result, nat_eq, sym, refl, ap, ◌∙◌, subst, inl, inr, arith, rules}
 use Rattle.std.specs.Int.Signed.{le_z}
-use Rattle.std.specs.Cmp.Lexicographic.{Matches}
+use Rattle.std.specs.Cmp.Lexicographic.{pointwise}
 use Rattle.std.proofs.lemmas.Slice.Eq.{slice_eq-Decides, compares_Decides}
 use Rattle.std.proofs.lemmas.Int.{ints}
 use Rattle.std.proofs.lemmas.Bool.{cond-true, cond-false, cases_Bool, both_ways, and_from, and_parts, and_left, and_right}
@@ -55,14 +55,14 @@ rule_wrong line fs k r rs f = by (wrong r (field fs k)) refl
     by (Some c) e h = first_wrong-here line fs k r rs c e ∙ sym (first_wrong-here line fs k r [] c e) ∙ h
 
 -- what a field that is no word, or no number, shows
-pub shown_no_word : (r : Field) (f : List ℕ) → Shows r f → ((s : Bor (List ℕ)) → r ≡ Word s → ⊥) → is_word f ≡ false
+pub shown_no_word : (r : Field) (f : List ℕ) → Shows r f → ((s : _) → r ≡ Word s → ⊥) → is_word f ≡ false
 unfolding is_word
 shown_no_word Empty f e none = rw e
 shown_no_word (Word s) f e none = absurd (none s refl)
 shown_no_word (Number s) f e none = elim (cases_Bool (is_word f)) [ inl w ↦ absurd (word_no_number f w e.1) | inr w ↦ w ]
 shown_no_word (Other s) f e none = e.2
 
-pub shown_no_number : (r : Field) (f : List ℕ) → Shows r f → ((s : Bor (List ℕ)) → r ≡ Number s → ⊥) → is_number f ≡ false
+pub shown_no_number : (r : Field) (f : List ℕ) → Shows r f → ((s : _) → r ≡ Number s → ⊥) → is_number f ≡ false
 unfolding is_number
 shown_no_number Empty f e none = rw e
 shown_no_number (Word s) f e none = elim (cases_Bool (is_number f)) [ inl n ↦ absurd (word_no_number f e.1 n) | inr n ↦ n ]
@@ -73,11 +73,11 @@ shown_no_number (Other s) f e none = e.3
 pub same-decides : (xs ys : List ℕ) → Decides (same xs ys) (xs ≡ ys)
 same-decides = compares_Decides same (search rules)
 
-pub same-from-matches : (xs ys : List ℕ) (r : Bool) → Matches (λ (a b : ℕ) (t : Bool). Decides t (a ≡ b)) xs ys r → r ≡ same xs ys
-same-from-matches xs ys r h = same_from_decides r (same xs ys) (slice_eq-Decides Decides-eqb xs ys r h) (same-decides xs ys)
+pub same-from-equal : (xs ys : List ℕ) (r : Bool) → r ≡ pointwise nat_eq xs ys → r ≡ same xs ys
+same-from-equal xs ys r h = same_from_decides r (same xs ys) (slice_eq-Decides Decides-eqb xs ys r h) (same-decides xs ys)
 
-pub same_read : (f xs ys : List ℕ) (r t : Bool) → xs ≡ f → Matches (λ (a b : ℕ) (t : Bool). Decides t (a ≡ b)) xs ys r → r ≡ t → same f ys ≡ t
-same_read f xs ys r t e h is = ap (λ w. same w ys) (sym e) ∙ sym (same-from-matches xs ys r h) ∙ is
+pub same_read : (f xs ys : List ℕ) (r t : Bool) → xs ≡ f → r ≡ pointwise nat_eq xs ys → r ≡ t → same f ys ≡ t
+same_read f xs ys r t e h is = ap (λ w. same w ys) (sym e) ∙ sym (same-from-equal xs ys r h) ∙ is
 
 -- what is no word is no listed word
 pub same-no-word : (f w : List ℕ) → is_word f ≡ false → is_word w ≡ true → same f w ≡ false

@@ -8,13 +8,13 @@ use Rattle.recipe.proofs.Alike.{alike_requests}
 use Rattle.recipe.proofs.Cuts.{Free}
 use Rattle.recipe.proofs.Reports.{too_long, no_line, set_wrong, set_right, answers_err, answers_ok, answered-err}
 use Rattle.recipe.proofs.ask.set_and_recipe.Goals as goal
-use Rattle.recipe.proofs.ask.set_and_recipe.Goals.{In-ok-asked, at·returns-in_err-fill, at·returns}
+use Rattle.recipe.proofs.ask.set_and_recipe.Goals.{In_ok-asked, at-returns-in_err-fill, at-returns}
 
 -- the set is right, so the recipe decides
-past-set : (c : In-ok-asked) → requested c.args.text.now ≡ asked (fields_of (take c.find-end.result c.args.text.now)) (read_from begun 2 (lines_of (drop (c.find-end.result + 1) c.args.text.now)) (tail_of (drop (c.find-end.result + 1) c.args.text.now)))
+past-set : (c : In_ok-asked) → requested c.args.text.now ≡ asked (fields_of (take c.find-end.result c.args.text.now)) (read_from begun 2 (lines_of (drop (c.find-end.result + 1) c.args.text.now)) (tail_of (drop (c.find-end.result + 1) c.args.text.now)))
 past-set c =
     let found = c.find-end.ensures in
-    set_right c.args.text.now c.if-text-gt65536.false c.find-end.result (omega arith) found.before (found.found (omega arith)) c.in-ok-asked.ensures.0
+    set_right c.args.text.now c.if-text-gt65536.false c.find-end.result (omega arith) found.before (found.found (omega arith)) c.in_ok-asked.ensures.0
 
 pub returns-then-text-gt65536 : goal.returns-then-text-gt65536
 returns-then-text-gt65536 c = sym (too_long c.args.text.now c.if-text-gt65536.true)
@@ -29,18 +29,18 @@ pub returns-in_err-asked : goal.returns-in_err-asked
 returns-in_err-asked c =
     let found = c.find-end.ensures in
     answered-err c.from_residual.result _ _ (err_from_is_err_and c.from_residual.result c.from_residual.ensures.1)
-    (set_wrong c.args.text.now c.if-text-gt65536.false c.find-end.result (omega arith) found.before (found.found (omega arith)) _ c.in-err-asked.ensures)
+    (set_wrong c.args.text.now c.if-text-gt65536.false c.find-end.result (omega arith) found.before (found.found (omega arith)) _ c.in_err-asked.ensures)
 
 pub returns-in_err-fill : goal.returns-in_err-fill
 returns-in_err-fill c =
     let t = c.args.text.now in
-    let h = simp take_rest at c.in-err-fill.ensures in
+    let h = simp take_rest at c.in_err-fill.ensures in
     answered-err c.from_residual-in_err-fill.result _ _ (err_from_is_err_and c.from_residual-in_err-fill.result c.from_residual-in_err-fill.ensures.1)
-    (past-set (at·returns-in_err-fill c).In-ok-asked ∙ ap (asked (fields_of (take c.find-end.result t))) (answers_err _ _ _ h))
+    (past-set (at-returns-in_err-fill c).In_ok-asked ∙ ap (asked (fields_of (take c.find-end.result t))) (answers_err _ _ _ h))
 
 pub returns : goal.returns
 returns c =
     let t = c.args.text.now in
-    let h = simp take_rest at c.in-ok-fill.ensures in
-    let sets = c.in-ok-asked.ensures.1 in
-    sym (past-set (at·returns c).In-ok-asked ∙ ap (asked (fields_of (take c.find-end.result t))) (answers_ok _ _ h) ∙ ap Ok (alike_requests (sym sets.shape) (sym sets.span)))
+    let h = simp take_rest at c.in_ok-fill.ensures in
+    let sets = c.in_ok-asked.ensures.1 in
+    sym (past-set (at-returns c).In_ok-asked ∙ ap (asked (fields_of (take c.find-end.result t))) (answers_ok _ _ h) ∙ ap Ok (alike_requests (sym sets.shape) (sym sets.span)))

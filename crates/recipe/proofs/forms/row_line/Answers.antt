@@ -8,28 +8,28 @@ use Rattle.recipe.specs.Rules.{row}
 use Rattle.recipe.proofs.Alike.{alike_rows}
 use Rattle.recipe.proofs.Faults.{past, rule_right, rule_wrong, judged_err}
 use Rattle.recipe.proofs.forms.row_line.Goals as goal
-use Rattle.recipe.proofs.forms.row_line.Goals.{In-ok-exponent, at·returns-in_err-taps, at·returns}
+use Rattle.recipe.proofs.forms.row_line.Goals.{In_ok-exponent, at-returns-in_err-taps, at-returns}
 
-past-exponent : (c : In-ok-exponent) → past (row c.args.i) 0 c.args.line.now ≡ past (row c.args.i) 1 c.args.line.now
-past-exponent c = rule_right _ _ 1 _ _ c.in-ok-exponent.ensures.0
+past-exponent : (c : In_ok-exponent) → past (row c.args.i) 0 c.args.line.now ≡ past (row c.args.i) 1 c.args.line.now
+past-exponent c = rule_right _ _ 1 _ _ c.in_ok-exponent.ensures.0
 
 pub returns-in_err-exponent : goal.returns-in_err-exponent
 returns-in_err-exponent c =
     judged_err _ _ c.from_residual.result _ (err_from_is_err_and c.from_residual.result c.from_residual.ensures.1)
-    (rule_wrong _ _ 1 _ _ _ c.in-err-exponent.ensures)
+    (rule_wrong _ _ 1 _ _ _ c.in_err-exponent.ensures)
 
 pub returns-in_err-taps : goal.returns-in_err-taps
 returns-in_err-taps c =
     judged_err _ _ c.from_residual-in_err-taps.result _ (err_from_is_err_and c.from_residual-in_err-taps.result c.from_residual-in_err-taps.ensures.1)
-    (past-exponent (at·returns-in_err-taps c).In-ok-exponent ∙ c.in-err-taps.ensures)
+    (past-exponent (at-returns-in_err-taps c).In_ok-exponent ∙ c.in_err-taps.ensures)
 
 pub returns : goal.returns
 returns c =
     let line = c.args.line.now in
-    let e = c.in-ok-exponent.ensures.1.is in
-    let taps = c.in-ok-taps.ensures in
+    let e = c.in_ok-exponent.ensures.1.is in
+    let taps = c.in_ok-taps.ensures in
     let fits : SFits w32 c.half-residue.result = search rules in
     let n : c.args.i ≡ length (fields_in line) - 2 = omega arith in (
-      past-exponent (at·returns c).In-ok-exponent ∙ taps.0,
+      past-exponent (at-returns c).In_ok-exponent ∙ taps.0,
       alike_rows (ap nat_abs (sym e)) (to_z-of_z w32 _ fits ∙ c.half-residue.ensures ∙ ap (λ z. pos (half_of (nat_abs z))) (sym e)) (taps.1.0 ∙ ap (numbers (fields_in line) 2) n),
     )

@@ -12,16 +12,16 @@ pub returns-in_err-tap : goal.returns-in_err-tap
 returns-in_err-tap c =
     let line = c.args.line.now in
     judged_err _ _ c.from_residual.result _ (err_from_is_err_and c.from_residual.result c.from_residual.ensures.1)
-    (c.loop-i.invariant.2 ∙ rules_wrong line.number (fields_in line) c.args.from c.args.n c.loop-i.i tap_rule c.loop-i-test.true _ c.in-err-tap.ensures)
+    (c.loop-i.invariant.2 ∙ rules_wrong line.number (fields_in line) c.args.from c.args.n c.loop-i.i tap_rule c.loop-i-test.true _ c.in_err-tap.ensures)
 
 pub loop-i-preserved : goal.loop-i-preserved
 loop-i-preserved c =
     let line = c.args.line.now in
     let i = c.loop-i.i in
-    let tap = c.in-ok-tap.ensures in
+    let tap = c.in_ok-tap.ensures in
     let held = tap.1 in
-    let fits : SFits w32 c.in-ok-tap.tap = search rules in
-    let same : to_z w16 (of_z w16 (to_z w32 (of_z w32 c.in-ok-tap.tap))) ≡ c.in-ok-tap.tap = omega (arith, ints) in (
+    let fits : SFits w32 c.in_ok-tap.tap = search rules in
+    let same : to_z w16 (of_z w16 (to_z w32 (of_z w32 c.in_ok-tap.tap))) ≡ c.in_ok-tap.tap = omega (arith, ints) in (
       length-set _ _ _ ∙ c.loop-i.invariant.0,
       numbers_more (fields_in line) c.args.from i c.loop-i.found _ (omega arith) (same ∙ held.is) c.loop-i.invariant.1,
       c.loop-i.invariant.2 ∙ rules_next line.number (fields_in line) c.args.from c.args.n i tap_rule c.loop-i-test.true tap.0,

@@ -9,7 +9,7 @@ unfolding fields_of
 returns-then-end-rest c =
     let rest = c.loop-i.rest.now in
     let free : Free 44 rest (length rest) = λ k h. c.find-end.ensures.before k (omega arith) in
-    get_or-cut-past 44 rest (cut 44 c.args.self.now.bytes.now) c.loop-i.-i c.loop-i.invariant.1 free c.args.k c.loop-i-test.true
+    get_or-cut-past 44 rest (cut 44 c.args.self.now.bytes.now) c.loop-i._i c.loop-i.invariant.1 free c.args.k c.loop-i-test.true
 
 pub loop-i-preserved : goal.loop-i-preserved
 loop-i-preserved c =
@@ -17,7 +17,7 @@ loop-i-preserved c =
     let j = c.find-end.result in
     simp take_rest (
       simp length-drop (omega arith),
-      drop-more-cut 44 rest (cut 44 c.args.self.now.bytes.now) c.loop-i.-i c.loop-i.invariant.1 j (omega arith) c.find-end.ensures.before (c.find-end.ensures.found (omega arith)),
+      drop-more-cut 44 rest (cut 44 c.args.self.now.bytes.now) c.loop-i._i c.loop-i.invariant.1 j (omega arith) c.find-end.ensures.before (c.find-end.ensures.found (omega arith)),
     )
 
 pub returns : goal.returns
@@ -25,6 +25,6 @@ unfolding fields_of
 returns c =
     let rest = c.loop-i.rest.now in
     let fs = cut 44 c.args.self.now.bytes.now in
-    let k : c.loop-i.-i ≡ c.args.k = omega arith in
-    let e = get_or-cut 44 rest fs c.loop-i.-i c.loop-i.invariant.1 c.find-end-2.result c.find-end-2.ensures.within c.find-end-2.ensures.before c.find-end-2.ensures.found in
+    let k : c.loop-i._i ≡ c.args.k = omega arith in
+    let e = get_or-cut 44 rest fs c.loop-i._i c.loop-i.invariant.1 c.find-end-2.result c.find-end-2.ensures.within c.find-end-2.ensures.before c.find-end-2.ensures.found in
     subst (Shows c.kind.result) (sym e ∙ ap (λ i. get_or fs i []) k) c.kind.ensures

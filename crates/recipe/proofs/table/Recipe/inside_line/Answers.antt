@@ -10,7 +10,7 @@ use Rattle.recipe.proofs.Faults.{judged_err}
 use Rattle.recipe.proofs.Openings.{inside_fault, inside_taken, inside_rct}
 use Rattle.recipe.proofs.Tables.{sofar, ends, fits-step, fits-row, length-with_step, length-with_row, at-hand, fits-at-hand, room_dep, step-form, row_form, rct_plain}
 use Rattle.recipe.proofs.table.Recipe.inside_line.Goals as goal
-use Rattle.recipe.proofs.table.Recipe.inside_line.Goals.{In-Lift, In-Dep, at·returns-in-err-step, at·returns-in-ok-step, at·returns-in-err-row, at·returns-in-ok-row}
+use Rattle.recipe.proofs.table.Recipe.inside_line.Goals.{In-Lift, In-Dep, at-returns-in_err-step-in-Lift, at-returns-in_ok-step-in-Lift, at-returns-in_err-row-in-Dep, at-returns-in_ok-row-in-Dep}
 
 lift_at_hand : (c : In-Lift) → at_hand (table_of c.args.self.now) ≡ Some (plain (in_lift c.in-Lift.field-0))
 lift_at_hand c = at-hand c.args.self.now c.args.left c.requires.0 c.requires.1 _ _ c.in-Lift.is
@@ -24,25 +24,25 @@ step-fault c = inside_fault _ c.requires.0 _ _ _ (codes "STEP") step (lift_at_ha
 row_fault : (c : In-Dep) → line_fault (record { stages = table_of c.args.self.now; left = c.args.left }) c.args.line.now.number (fields_in c.args.line.now) ≡ headed (codes "ROW") (row c.in-Dep.dep.count) c.args.line.now.number (fields_in c.args.line.now)
 row_fault c = inside_fault _ c.requires.0 _ _ _ (codes "ROW") (row c.in-Dep.dep.count) (dep_at_hand c) (row_form c.in-Dep.dep)
 
-pub returns-in-err-step : goal.returns-in-err-step
-returns-in-err-step c =
+pub returns-in_err-step-in-Lift : goal.returns-in_err-step-in-Lift
+returns-in_err-step-in-Lift c =
     judged_err _ _ c.from_residual.result _ (err_from_is_err_and c.from_residual.result c.from_residual.ensures.1)
-    (step-fault (at·returns-in-err-step c).In-Lift ∙ c.in-err-step.ensures)
+    (step-fault (at-returns-in_err-step-in-Lift c).In-Lift ∙ c.in_err-step-in-Lift.ensures)
 
 pub row_due-requires : goal.row_due-requires
 row_due-requires c =
     let h = room_dep c.in-Dep.dep c.args.left (fits-at-hand c.args.self.now c.args.left c.requires.0 c.requires.1 _ _ c.in-Dep.is) in
     omega arith
 
-pub returns-in-err-row : goal.returns-in-err-row
-returns-in-err-row c =
-    judged_err _ _ c.from-residual-in-err-row.result _ (err_from_is_err_and c.from-residual-in-err-row.result c.from-residual-in-err-row.ensures.1)
-    (row_fault (at·returns-in-err-row c).In-Dep ∙ c.in-err-row.ensures)
+pub returns-in_err-row-in-Dep : goal.returns-in_err-row-in-Dep
+returns-in_err-row-in-Dep c =
+    judged_err _ _ c.from_residual-in_err-row-in-Dep.result _ (err_from_is_err_and c.from_residual-in_err-row-in-Dep.result c.from_residual-in_err-row-in-Dep.ensures.1)
+    (row_fault (at-returns-in_err-row-in-Dep c).In-Dep ∙ c.in_err-row-in-Dep.ensures)
 
-pub returns-in-ok-step : goal.returns-in-ok-step
-returns-in-ok-step c =
-    let so = (at·returns-in-ok-step c).In-Lift in
-    let done = c.in-ok-step.ensures in
+pub returns-in_ok-step-in-Lift : goal.returns-in_ok-step-in-Lift
+returns-in_ok-step-in-Lift c =
+    let so = (at-returns-in_ok-step-in-Lift c).In-Lift in
+    let done = c.in_ok-step-in-Lift.ensures in
     let ts = table_of c.args.self.now in
     let due = c.requires.0 in
     let n : length (table_of c.add_step.new.self) ≡ length ts = ap length c.add_step.ensures ∙ length-with_step _ ts in (
@@ -54,10 +54,10 @@ returns-in-ok-step c =
       },
     )
 
-pub returns-in-ok-row : goal.returns-in-ok-row
-returns-in-ok-row c =
-    let so = (at·returns-in-ok-row c).In-Dep in
-    let done = c.in-ok-row.ensures in
+pub returns-in_ok-row-in-Dep : goal.returns-in_ok-row-in-Dep
+returns-in_ok-row-in-Dep c =
+    let so = (at-returns-in_ok-row-in-Dep c).In-Dep in
+    let done = c.in_ok-row-in-Dep.ensures in
     let ts = table_of c.args.self.now in
     let due = c.requires.0 in
     let n : length (table_of c.add_row.new.self) ≡ length ts = ap length c.add_row.ensures ∙ length-with_row _ ts in (
