@@ -1,5 +1,5 @@
 -- Words and numbers by their bytes.
-use Rattle.std.proofs.Common.{◌≡◌, ℕ, zero, suc, ◌+◌, ◌-◌, ◌<◌, ◌≤◌, Bool, true, false, not, ◌&&◌, eqb, leb, List, [], ◌∷◌, length, get_or, drop, sym, refl, ap, ◌∙◌, arith}
+use Rattle.std.proofs.Common.{◌≡◌, ℕ, zero, suc, ◌+◌, ◌<◌, ◌≤◌, Bool, true, false, not, ◌&&◌, eqb, leb, List, [], ◌∷◌, length, get_or, drop, sym, refl, ap, ◌∙◌, arith}
 use Rattle.std.proofs.lemmas.List.{nil_from_length, at_drop_more}
 use Rattle.std.proofs.lemmas.Bool.{and_left, and_right, and_parts, not_from_true, lt-leb, leb-true, eq-eqb, ne_eqb, cond-true, cond-false, both_ways}
 use Rattle.recipe.specs.Fields.{every, is_letter, is_digit, is_word, is_natural, is_number, is_zero}

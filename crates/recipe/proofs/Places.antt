@@ -5,7 +5,7 @@ use Rattle.std.specs.List.{flat_map, AllByRecursion as All}
 use Rattle.std.proofs.ByRecursion.{All-push}
 use Rattle.std.proofs.lemmas.List.{flat_map_more, length_push, map_push}
 use Rattle.std.proofs.lemmas.Bool.{ltb-true, cond-true, cond-false}
-use Rattle.recipe.specs.Grammar.{Sofar, natural, lift_from, step_from, row_from, at_hand, form_inside, form_due, has_space, form_fault, line_fault, with_step, with_row, form_taken, taken}
+use Rattle.recipe.specs.Grammar.{Sofar, natural, lift_from, step_from, row_from, form_inside, form_due, has_space, form_fault, line_fault, form_taken, taken}
 use Rattle.stages.specs.Plain.{Plain, PlainStep, PlainRow, PlainLift, lift as a-lift, dep as a-dep, rct as an-rct}
 use Rattle.recipe.specs.Rules.{Form, lift, step, dep, row, rct, same, has_fields}
 use Rattle.recipe.specs.Written.{lift_line, step_line, dep_line, row_line, stage_lines, LawfulStep, LawfulLift, LawfulRow, LawfulRows, Lawful, LawfulStages}

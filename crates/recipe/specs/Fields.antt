@@ -1,5 +1,5 @@
 -- A text as lines, a line as fields, and the kinds of field.
-use Rattle.std.specs.Prelude.{◌≡◌, ℕ, ◌+◌, ◌-◌, ◌*◌, Bool, true, false, cond, not, ◌&&◌, List, [], ◌∷◌, ◌++◌, length, ℤ, pos, neg_ℤ, ◌==◌, nat_le}
+use Rattle.std.specs.Prelude.{◌≡◌, ℕ, ◌+◌, ◌-◌, ◌*◌, Bool, true, false, cond, not, ◌&&◌, List, [], ◌∷◌, ℤ, pos, neg_ℤ, ◌==◌, nat_le}
 use Rattle.recipe.specs.declared.field.Field.{Field}
 use Rattle.recipe.specs.declared.field.Field.TheVariants.{Empty, Word, Number, Other}
 

@@ -1,5 +1,5 @@
 -- The stages of a recipe, by number.
-use Rattle.std.specs.Prelude.{ℕ, List, slice_index_or}
+use Rattle.std.specs.Prelude.{ℕ, slice_index_or}
 use Rattle.recipe.specs.declared.table.Recipe.{Recipe}
 use Rattle.recipe.specs.Tables.{table_of}
 use Rattle.stages.specs.Plain.{Plain, rct}

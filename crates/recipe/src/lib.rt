@@ -1,4 +1,6 @@
 // Recipes: the text format, its reader, and the table of stages.
+#![tactic(auto)]
+
 pub mod ask;
 mod asked;
 mod begun;

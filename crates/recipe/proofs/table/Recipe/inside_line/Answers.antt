@@ -1,4 +1,4 @@
-use Rattle.std.proofs.Common.{◌≡◌, ◌+◌, ◌-◌, length, Some, codes, sym, ap, ◌∙◌, subst, arith}
+use Rattle.std.proofs.Common.{◌≡◌, ◌-◌, length, Some, codes, sym, ap, ◌∙◌, subst, arith}
 use Rattle.std.proofs.lemmas.Result.{err_from_is_err_and}
 use Rattle.stages.specs.declared.stage.Stage.TheVariants.{Lift as in_lift, Dep as in_dep}
 use Rattle.recipe.specs.Grammar.{at_hand, line_fault, with_step, with_row}
