@@ -1,6 +1,6 @@
 -- The text of lawful stages is read as those stages.
 use Rattle.std.proofs.Common.{◌≡◌, ℕ, zero, suc, ◌+◌, ◌-◌, ◌<◌, ◌≤◌, true, leb, List, [], ◌∷◌, ◌++◌, map, length, ℤ, pos, negsuc, None, Ok, codes, sym, refl, ap, ◌∙◌, subst, append_assoc, arith}
-use Rattle.std.specs.List.{flat_map, AllByRecursion as All}
+use Rattle.std.specs.List.{flat_map, AllByRecursion}
 use Rattle.std.specs.Fmt.{signed_decimal}
 use Rattle.std.proofs.ByRecursion.{All-append}
 use Rattle.std.proofs.lemmas.List.{append-nil, map-append, length_push}
@@ -29,7 +29,7 @@ free_word s (b ∷ bs) l h =
     (ne_eqb b s (λ e. omega arith), free_word s bs l parts.1)
 
 module _ (s : ℕ) (low : s < 45) where
-  free_taps : (zs : List ℤ) → All LawfulTap zs → All (Free s) (map signed_decimal zs)
+  free_taps : (zs : List ℤ) → AllByRecursion LawfulTap zs → AllByRecursion (Free s) (map signed_decimal zs)
   free_taps [] h = tt
   free_taps (z ∷ zs) h = (within-free s (negsuc 32767) (pos 32767) z low tap_small h.0.0 h.0.1, free_taps zs h.1)
 
@@ -41,7 +41,7 @@ module _ (s : ℕ) (low : s < 45) where
   free_extension Mirrored = free_word s (codes "WS") low refl
   free_extension Nearest = free_word s (codes "CON") low refl
 
-  pub free_lift : (l : PlainLift) (n : ℕ) → LawfulLift l → n ≤ 4 → All (Free s) (lift_line l n)
+  pub free_lift : (l : PlainLift) (n : ℕ) → LawfulLift l → n ≤ 4 → AllByRecursion (Free s) (lift_line l n)
   free_lift l n h few =
       let some = h.some in
       let inside = h.inside in
@@ -49,35 +49,35 @@ module _ (s : ℕ) (low : s < 45) where
       let parity = parity_few l.parity in
       (free_word s (codes "LIFT") low refl, (free_axis l.axis, (free_natural s l.first low (omega arith), (free_natural s l.count low (omega arith), (free_natural s l.level low (omega arith), (free_extension l.extension, (free_natural s (parity_number l.parity) low (omega arith), (free_natural s n low (omega arith), tt))))))))
 
-  pub free_step : (x : PlainStep) → LawfulStep x → All (Free s) (step_line x)
+  pub free_step : (x : PlainStep) → LawfulStep x → AllByRecursion (Free s) (step_line x)
   free_step x h =
       (free_word s (codes "STEP") low refl, (within-free s (negsuc 7) (pos 8) x.offset low offset_small h.left h.right, (free_natural s x.exponent low (omega (arith, h.exponent)), (within-free s (negsuc 65535) (pos 65536) x.residue low residue_small h.low h.high, free_taps x.taps h.taps))))
 
-  pub free_dep : (first n : ℕ) → first ≤ 64 → n ≤ 8 → All (Free s) (dep_line first n)
+  pub free_dep : (first n : ℕ) → first ≤ 64 → n ≤ 8 → AllByRecursion (Free s) (dep_line first n)
   free_dep first n small few = (free_word s (codes "DEP") low refl, (free_natural s first low (omega arith), (free_natural s n low (omega arith), tt)))
 
-  pub free_row : (n : ℕ) (x : PlainRow) → LawfulRow n x → All (Free s) (row_line x)
+  pub free_row : (n : ℕ) (x : PlainRow) → LawfulRow n x → AllByRecursion (Free s) (row_line x)
   free_row n x h = (free_word s (codes "ROW") low refl, (free_natural s x.exponent low (omega (arith, h.exponent)), free_taps x.taps h.taps))
 
-  pub free_rct : (first : ℕ) → first ≤ 61 → All (Free s) (rct_line first)
+  pub free_rct : (first : ℕ) → first ≤ 61 → AllByRecursion (Free s) (rct_line first)
   free_rct first h = (free_word s (codes "RCT") low refl, (free_natural s first low (omega arith), tt))
 
-  free_steps : (xs : List PlainStep) → All LawfulStep xs → All (All (Free s)) (map step_line xs)
+  free_steps : (xs : List PlainStep) → AllByRecursion LawfulStep xs → AllByRecursion (AllByRecursion (Free s)) (map step_line xs)
   free_steps [] h = tt
   free_steps (x ∷ xs) h = (free_step x h.0, free_steps xs h.1)
 
-  free_rows : (i : ℕ) (rs : List PlainRow) → LawfulRows i rs → All (All (Free s)) (map row_line rs)
+  free_rows : (i : ℕ) (rs : List PlainRow) → LawfulRows i rs → AllByRecursion (AllByRecursion (Free s)) (map row_line rs)
   free_rows i [] h = tt
   free_rows i (r ∷ rs) h = (free_row i r h.0, free_rows (i + 1) rs h.1)
 
-  free_stage : (t : Plain) → Lawful t → All (All (Free s)) (stage_lines t)
+  free_stage : (t : Plain) → Lawful t → AllByRecursion (AllByRecursion (Free s)) (stage_lines t)
   free_stage (a-lift l ss) h = (free_lift l (length ss) h.0 h.2, free_steps ss h.3)
   free_stage (a-dep first rs) h = (free_dep first (1 + length rs) (omega (arith, h.0)) (omega (arith, h.2)), free_rows 1 rs h.3)
   free_stage (an-rct first) h = (free_rct first h, tt)
 
-  pub free_stages : (ts : List Plain) → All Lawful ts → All (All (Free s)) (flat_map stage_lines ts)
+  pub free_stages : (ts : List Plain) → AllByRecursion Lawful ts → AllByRecursion (AllByRecursion (Free s)) (flat_map stage_lines ts)
   free_stages [] h = tt
-  free_stages (t ∷ ts) h = All-append (All (Free s)) (stage_lines t) (flat_map stage_lines ts) (free_stage t h.0) (free_stages ts h.1)
+  free_stages (t ∷ ts) h = All-append (AllByRecursion (Free s)) (stage_lines t) (flat_map stage_lines ts) (free_stage t h.0) (free_stages ts h.1)
 
 -- the lines ls lead from the place p to q
 abbrev Reaches : Place → List (List ℕ) → Place → Type 0
@@ -89,7 +89,7 @@ reach_more p q r ls ms f g line rest tail =
     let two = g one.0 rest tail in
     (two.0, ap (λ x. read_from (sofar p) line x tail) (append_assoc ls ms rest) ∙ one.1 ∙ two.1)
 
-reach_one : (p q : Place) (fs : List (List ℕ)) → 1 ≤ length fs → All (Free 44) fs → ((line : ℕ) → line_fault (sofar p) line fs ≡ None) → taken (sofar p) fs ≡ sofar q → Reaches p (commas fs ∷ []) q
+reach_one : (p q : Place) (fs : List (List ℕ)) → 1 ≤ length fs → AllByRecursion (Free 44) fs → ((line : ℕ) → line_fault (sofar p) line fs ≡ None) → taken (sofar p) fs ≡ sofar q → Reaches p (commas fs ∷ []) q
 unfolding read_from
 reach_one p q fs some free none to line rest tail = (
   line + 1,
@@ -114,7 +114,7 @@ reach_row ts first rs n x h =
     (λ line. ap (form_fault (sofar p) line (row_line x)) (due_row ts first rs n (codes "ROW")) ∙ none_from_kept (sofar p) line (row_line x) (row (length rs + 1)) (inside_room (sofar p).stages n) (kept_from_row (length rs + 1) line x h))
     (row_taken ts first rs n _ ∙ ap (λ y. sofar (rowed ts first (rs ++ y ∷ []) n)) (row_of_line (length rs + 1) x h))
 
-reach_steps : (ts : List Plain) (l : PlainLift) (ss xs : List PlainStep) (n : ℕ) → length xs ≡ suc n → All LawfulStep xs → Reaches (in_lift ts l ss n) (map commas (map step_line xs)) (between (ts ++ a-lift l (ss ++ xs) ∷ []))
+reach_steps : (ts : List Plain) (l : PlainLift) (ss xs : List PlainStep) (n : ℕ) → length xs ≡ suc n → AllByRecursion LawfulStep xs → Reaches (in_lift ts l ss n) (map commas (map step_line xs)) (between (ts ++ a-lift l (ss ++ xs) ∷ []))
 reach_steps ts l ss [] n e h = absurd (omega arith)
 reach_steps ts l ss (x ∷ []) zero e h = reach_step ts l ss 0 x h.0
 reach_steps ts l ss (x ∷ []) (suc n) e h = absurd (omega arith)
@@ -164,7 +164,7 @@ reach_stage ts (an-rct first) room h =
     (λ line. none_from_kept (sofar (between ts)) line (rct_line first) rct (lt-ltb (length ts) 16 room) (kept_from_rct line first h))
     (λ i. record { stages = ts ++ an-rct (rct_of_line first h i) ∷ []; left = 0 })
 
-reach_stages : (ts us : List Plain) → length ts + length us ≤ 16 → All Lawful us → Reaches (between ts) (recipe_lines us) (between (ts ++ us))
+reach_stages : (ts us : List Plain) → length ts + length us ≤ 16 → AllByRecursion Lawful us → Reaches (between ts) (recipe_lines us) (between (ts ++ us))
 reach_stages ts [] few h = λ line rest tail. (line, ap (λ xs. read_from (sofar (between xs)) line rest tail) (sym (append-nil ts)))
 reach_stages ts (u ∷ us) few h =
     let count = length_push ts u in
@@ -174,11 +174,11 @@ reach_stages ts (u ∷ us) few h =
     (reach_more (between ts) (between (ts ++ u ∷ [])) (between ((ts ++ u ∷ []) ++ us)) (map commas (stage_lines u)) (recipe_lines us)
     (reach_stage ts u (omega arith) h.0) (reach_stages (ts ++ u ∷ []) us (omega arith) h.1)))
 
-free_commas : (fss : List (List (List ℕ))) → All (All (Free 10)) fss → All (Free 10) (map commas fss)
+free_commas : (fss : List (List (List ℕ))) → AllByRecursion (AllByRecursion (Free 10)) fss → AllByRecursion (Free 10) (map commas fss)
 free_commas [] h = tt
 free_commas (fs ∷ fss) h = (free_parted 10 44 fs refl h.0, free_commas fss h.1)
 
-pub free_recipe : (ts : List Plain) → All Lawful ts → All (Free 10) (recipe_lines ts)
+pub free_recipe : (ts : List Plain) → AllByRecursion Lawful ts → AllByRecursion (Free 10) (recipe_lines ts)
 free_recipe ts h = free_commas (flat_map stage_lines ts) (free_stages 10 (omega arith) ts h)
 
 -- a recipe's text as lines

@@ -2,7 +2,7 @@
 use Rattle.std.proofs.Common.{◌≡◌, ℕ, zero, suc, ◌+◌, ◌-◌, ◌≤◌, min, true, leb, ◌⊎◌, List, [], ◌∷◌, map, length, replicate, ℤ, pos, negsuc, ◌-ℤ◌, nat_abs, None, codes, decimal, sym, refl, ap, ◌∙◌, subst, inl, inr, arith}
 use Rattle.std.specs.Int.{int_min}
 use Rattle.std.specs.Fmt.{signed_decimal}
-use Rattle.std.specs.List.{AllByRecursion as All}
+use Rattle.std.specs.List.{AllByRecursion}
 use Rattle.std.proofs.lemmas.List.{length-map, length-replicate}
 use Rattle.std.proofs.lemmas.Int.{ints, clamps}
 use Rattle.std.proofs.lemmas.Bool.{eqb-true, eq-eqb, leb-true, le-leb, and_parts, and_from}
@@ -188,7 +188,7 @@ step-read (o ∷ e ∷ r ∷ ts) many h =
         high = pr.high;
         some = subst (λ zs. 1 ≤ length zs) is some;
         few = subst (λ zs. length zs ≤ 8) is few;
-        taps = subst (All LawfulTap) is pt.limits;
+        taps = subst (AllByRecursion LawfulTap) is pt.limits;
       };
       text = λ i. codes "STEP" ∷ po.text i ∷ pe.text i ∷ pr.text i ∷ (pt.text ∙ ap (map signed_decimal) is) i;
     }
@@ -243,7 +243,7 @@ row_read n (e ∷ ts) h =
     let pt = taps_from_fits n ts h.1 in
     let is = sym (row_taps (codes "ROW") e ts) in
     record {
-      lawful = record { exponent = pe.high; residue = refl; count = subst (λ zs. length zs ≡ n) is (length-map ts value_of ∙ pt.count); taps = subst (All LawfulTap) is pt.limits };
+      lawful = record { exponent = pe.high; residue = refl; count = subst (λ zs. length zs ≡ n) is (length-map ts value_of ∙ pt.count); taps = subst (AllByRecursion LawfulTap) is pt.limits };
       text = λ i. codes "ROW" ∷ pe.text i ∷ (pt.text ∙ ap (map signed_decimal) is) i;
     }
 

@@ -1,6 +1,6 @@
 -- A text cut at a separator and put together again.
 use Rattle.std.proofs.Common.{◌≡◌, ℕ, ◌≤◌, Bool, true, false, cond, eqb, List, [], ◌∷◌, ◌++◌, length, sym, refl, ap, ◌∙◌, append_assoc, arith}
-use Rattle.std.specs.List.{flat_map, AllByRecursion as All}
+use Rattle.std.specs.List.{flat_map, AllByRecursion}
 use Rattle.std.proofs.ByRecursion.{All-append}
 use Rattle.std.proofs.lemmas.Bool.{eqb-true, cond-true, cond-false, eq-eqb}
 use Rattle.recipe.specs.Fields.{onto, cut, heads, final, lines_of, tail_of, fields_of}
@@ -9,7 +9,7 @@ use Rattle.recipe.proofs.Cuts.{cut-some}
 
 -- no byte of a part is the separator
 abbrev pub Free : ℕ → List ℕ → Type 0
-Free s bs = All (λ b. eqb b s ≡ false) bs
+Free s bs = AllByRecursion (λ b. eqb b s ≡ false) bs
 
 parted-onto : (s b : ℕ) (ps : List (List ℕ)) → parted s (onto b ps) ≡ b ∷ parted s ps
 parted-onto s b [] = refl
@@ -28,15 +28,15 @@ parted-cut s (b ∷ bs) = by (eqb b s) refl (parted-cut s bs)
     by true e h = parted-cons s [] (cut s bs) (cut-some s bs) ∙ ap (λ x. x ∷ parted s (cut s bs)) (sym (eqb-true b s e)) ∙ ap (λ r. b ∷ r) h
     by false e h = parted-onto s b (cut s bs) ∙ ap (λ r. b ∷ r) h
 
-free_onto : (s b : ℕ) (ps : List (List ℕ)) → eqb b s ≡ false → All (Free s) ps → All (Free s) (onto b ps)
+free_onto : (s b : ℕ) (ps : List (List ℕ)) → eqb b s ≡ false → AllByRecursion (Free s) ps → AllByRecursion (Free s) (onto b ps)
 free_onto s b [] e h = ((e, tt), tt)
 free_onto s b (p ∷ ps) e h = ((e, h.0), h.1)
 
-pub cut-free : (s : ℕ) (bs : List ℕ) → All (Free s) (cut s bs)
+pub cut-free : (s : ℕ) (bs : List ℕ) → AllByRecursion (Free s) (cut s bs)
 cut-free s [] = (tt, tt)
 cut-free s (b ∷ bs) = by (eqb b s) refl (cut-free s bs)
   where
-    by : (t : Bool) → eqb b s ≡ t → All (Free s) (cut s bs) → All (Free s) (cond t ([] ∷ cut s bs) (onto b (cut s bs)))
+    by : (t : Bool) → eqb b s ≡ t → AllByRecursion (Free s) (cut s bs) → AllByRecursion (Free s) (cond t ([] ∷ cut s bs) (onto b (cut s bs)))
     by true e h = (tt, h)
     by false e h = free_onto s b (cut s bs) e h
 
@@ -49,11 +49,11 @@ cut-whole : (s : ℕ) (p : List ℕ) → Free s p → cut s p ≡ p ∷ []
 cut-whole s [] h = refl
 cut-whole s (b ∷ p) h = cond-false (eqb b s) _ _ h.0 ∙ ap (onto b) (cut-whole s p h.1)
 
-pub cut-parted : (s : ℕ) (p : List ℕ) (ps : List (List ℕ)) → All (Free s) (p ∷ ps) → cut s (parted s (p ∷ ps)) ≡ p ∷ ps
+pub cut-parted : (s : ℕ) (p : List ℕ) (ps : List (List ℕ)) → AllByRecursion (Free s) (p ∷ ps) → cut s (parted s (p ∷ ps)) ≡ p ∷ ps
 cut-parted s p [] h = cut-whole s p h.0
 cut-parted s p (q ∷ ps) h = cut-part s p (parted s (q ∷ ps)) h.0 ∙ ap (λ r. p ∷ r) (cut-parted s q ps h.1)
 
-pub free_parted : (s c : ℕ) (ps : List (List ℕ)) → eqb c s ≡ false → All (Free s) ps → Free s (parted c ps)
+pub free_parted : (s c : ℕ) (ps : List (List ℕ)) → eqb c s ≡ false → AllByRecursion (Free s) ps → Free s (parted c ps)
 free_parted s c [] e h = tt
 free_parted s c (p ∷ []) e h = h.0
 free_parted s c (p ∷ q ∷ ps) e h = All-append (λ b. eqb b s ≡ false) p (c ∷ parted c (q ∷ ps)) h.0 (e, free_parted s c (q ∷ ps) e h.1)
@@ -66,7 +66,7 @@ pub final-cons : (p : List ℕ) (ps : List (List ℕ)) → 1 ≤ length ps → f
 final-cons p [] h = absurd (omega arith)
 final-cons p (q ∷ ps) h = refl
 
-free_heads : (s : ℕ) (ps : List (List ℕ)) → All (Free s) ps → All (Free s) (heads ps)
+free_heads : (s : ℕ) (ps : List (List ℕ)) → AllByRecursion (Free s) ps → AllByRecursion (Free s) (heads ps)
 free_heads s [] h = tt
 free_heads s (p ∷ []) h = tt
 free_heads s (p ∷ q ∷ ps) h = (h.0, free_heads s (q ∷ ps) h.1)
@@ -84,7 +84,7 @@ pub text_lines : (text : List ℕ) → text ≡ flat_map ended (lines_of text) +
 unfolding lines_of tail_of
 text_lines text = sym (parted-cut 10 text) ∙ parted-heads (cut 10 text)
 
-pub free_lines : (text : List ℕ) → All (Free 10) (lines_of text)
+pub free_lines : (text : List ℕ) → AllByRecursion (Free 10) (lines_of text)
 unfolding lines_of
 free_lines text = free_heads 10 (cut 10 text) (cut-free 10 text)
 
@@ -99,11 +99,11 @@ tail_first line more h = ap final (cut-part 10 line more h) ∙ final-cons line 
 joined_cons : (line : List ℕ) (ls : List (List ℕ)) (more : List ℕ) → flat_map ended (line ∷ ls) ++ more ≡ line ++ 10 ∷ (flat_map ended ls ++ more)
 joined_cons line ls more = append_assoc (ended line) (flat_map ended ls) more ∙ append_assoc line (10 ∷ []) (flat_map ended ls ++ more)
 
-pub lines_first : (ls : List (List ℕ)) (more : List ℕ) → All (Free 10) ls → lines_of (flat_map ended ls ++ more) ≡ ls ++ lines_of more
+pub lines_first : (ls : List (List ℕ)) (more : List ℕ) → AllByRecursion (Free 10) ls → lines_of (flat_map ended ls ++ more) ≡ ls ++ lines_of more
 lines_first [] more h = refl
 lines_first (l ∷ ls) more h = ap lines_of (joined_cons l ls more) ∙ line_first l (flat_map ended ls ++ more) h.0 ∙ ap (λ r. l ∷ r) (lines_first ls more h.1)
 
-pub tail_last : (ls : List (List ℕ)) (more : List ℕ) → All (Free 10) ls → tail_of (flat_map ended ls ++ more) ≡ tail_of more
+pub tail_last : (ls : List (List ℕ)) (more : List ℕ) → AllByRecursion (Free 10) ls → tail_of (flat_map ended ls ++ more) ≡ tail_of more
 tail_last [] more h = refl
 tail_last (l ∷ ls) more h = ap tail_of (joined_cons l ls more) ∙ tail_first l (flat_map ended ls ++ more) h.0 ∙ tail_last ls more h.1
 
@@ -112,7 +112,7 @@ pub line-fields : (line : List ℕ) → parted 44 (fields_of line) ≡ line
 unfolding fields_of
 line-fields line = parted-cut 44 line
 
-pub fields_line : (fs : List (List ℕ)) → 1 ≤ length fs → All (Free 44) fs → fields_of (parted 44 fs) ≡ fs
+pub fields_line : (fs : List (List ℕ)) → 1 ≤ length fs → AllByRecursion (Free 44) fs → fields_of (parted 44 fs) ≡ fs
 unfolding fields_of
 fields_line [] some h = absurd (omega arith)
 fields_line (f ∷ fs) some h = cut-parted 44 f fs h

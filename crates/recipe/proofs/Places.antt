@@ -1,7 +1,7 @@
 -- Where a reading stands, and what one line more makes of it.
 use Rattle.std.proofs.Common.{◌≡◌, ℕ, zero, suc, ◌+◌, ◌-◌, ◌<◌, ◌≤◌, Bool, true, false, cond, eqb, List, [], ◌∷◌, ◌++◌, map, length, Some, None, codes, sym, refl, ap, ◌∙◌, subst, append_assoc, arith}
 use Rattle.std.proofs.Math.Dec.{eqb-suc-zero}
-use Rattle.std.specs.List.{flat_map, AllByRecursion as All}
+use Rattle.std.specs.List.{flat_map, AllByRecursion}
 use Rattle.std.proofs.ByRecursion.{All-push}
 use Rattle.std.proofs.lemmas.List.{flat_map_more, length_push, map_push}
 use Rattle.std.proofs.lemmas.Bool.{ltb-true, cond-true, cond-false}
@@ -34,8 +34,8 @@ lines_read (in_dep ts first rs n) = flat_map stage_lines ts ++ (dep_line first (
 -- the limits so far
 abbrev pub Sound : Place → Type 0
 Sound (between ts) = LawfulStages ts
-Sound (in_lift ts l ss n) = All Lawful ts × (length ts < 16) × LawfulLift l × (length ss + suc n ≤ 4) × All LawfulStep ss
-Sound (in_dep ts first rs n) = All Lawful ts × (length ts < 16) × (first + (1 + (length rs + suc n)) ≤ 64) × (length rs + suc n ≤ 7) × LawfulRows 1 rs
+Sound (in_lift ts l ss n) = AllByRecursion Lawful ts × (length ts < 16) × LawfulLift l × (length ss + suc n ≤ 4) × AllByRecursion LawfulStep ss
+Sound (in_dep ts first rs n) = AllByRecursion Lawful ts × (length ts < 16) × (first + (1 + (length rs + suc n)) ≤ 64) × (length rs + suc n ≤ 7) × LawfulRows 1 rs
 
 -- behind a step, or a row
 abbrev pub stepped : List Plain → PlainLift → List PlainStep → ℕ → Place
@@ -96,7 +96,7 @@ pub record Adds (p : Place) (fs : List (List ℕ)) : Type 0 where
 pub joined_push : (ts : List Plain) (t : Plain) → flat_map stage_lines (ts ++ t ∷ []) ≡ flat_map stage_lines ts ++ stage_lines t
 joined_push ts t = sym (flat_map_more stage_lines [] ts t)
 
-lawful_push : (ts : List Plain) (t : Plain) → All Lawful ts → length ts < 16 → Lawful t → LawfulStages (ts ++ t ∷ [])
+lawful_push : (ts : List Plain) (t : Plain) → AllByRecursion Lawful ts → length ts < 16 → Lawful t → LawfulStages (ts ++ t ∷ [])
 lawful_push ts t all few one = let count = length_push ts t in record { each = All-push Lawful ts t all one; few = omega arith }
 
 module _ (ts : List Plain) (line : ℕ) (gs : List (List ℕ)) (sound : LawfulStages ts) where

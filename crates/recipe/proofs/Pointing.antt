@@ -1,6 +1,6 @@
 -- Where a refused text goes wrong: what was read up to the fault begins a recipe.
 use Rattle.std.proofs.Common.{◌≡◌, ℕ, zero, suc, ◌+◌, ◌<◌, ◌≤◌, Bool, true, false, cond, ◌&&◌, eqb, List, [], ◌∷◌, ◌++◌, map, length, get_or, take, drop, replicate, pos, Some, None, Ok, Err, Option, Result, sym, refl, ap, ◌∙◌, subst, append_assoc, arith}
-use Rattle.std.specs.List.{flat_map, AllByRecursion as All}
+use Rattle.std.specs.List.{flat_map, AllByRecursion}
 use Rattle.std.proofs.ByRecursion.{All-take}
 use Rattle.std.proofs.lemmas.List.{append-nil, map-append, length-replicate, length-append, length-take-le, take-append-le, take-take, take-append-drop, drop_more, get_or_append_left, get_or-take}
 use Rattle.std.proofs.lemmas.Int.{ints}
@@ -36,7 +36,7 @@ still-step = record { left = omega (arith, ints); right = omega (arith, ints); e
 still_row : ℕ → PlainRow
 still_row n = record { exponent = 0; residue = pos 0; taps = replicate n (pos 0) }
 
-still_taps : (n : ℕ) → All LawfulTap (replicate n (pos 0))
+still_taps : (n : ℕ) → AllByRecursion LawfulTap (replicate n (pos 0))
 still_taps zero = tt
 still_taps (suc n) = ((omega (arith, ints), omega (arith, ints)), still_taps n)
 
@@ -209,7 +209,7 @@ goes_on first ls ms f s tail us same long h =
     by (Some g) next e = ok_err us g (sym e)
 
 -- with the line at fault they begin none
-pub none_with : (from : ℕ) (ls : List (List ℕ)) (f : Fault) (s : Stops (between []) from ls f) → All (Free 10) ls → s.k < length ls → Begun SomeRecipe (take (s.k + 1) ls) → ⊥
+pub none_with : (from : ℕ) (ls : List (List ℕ)) (f : Fault) (s : Stops (between []) from ls f) → AllByRecursion (Free 10) ls → s.k < length ls → Begun SomeRecipe (take (s.k + 1) ls) → ⊥
 none_with from ls f s free long b =
     let k = s.k in
     let some : k + 1 ≤ length ls = omega arith in

@@ -1,6 +1,6 @@
 -- A refusal by the lines that are read, whatever the number of the first.
 use Rattle.std.proofs.Common.{◌≡◌, ℕ, ◌+◌, ◌-◌, ◌<◌, ◌≤◌, List, [], length, get_or, take, Err, sym, subst, arith}
-use Rattle.std.specs.List.{AllByRecursion as All}
+use Rattle.std.specs.List.{AllByRecursion}
 use Rattle.recipe.specs.declared.fault.Cause.TheVariants.{EndsInside, FieldCount}
 use Rattle.recipe.specs.declared.fault.Fault.{Fault}
 use Rattle.recipe.specs.Fields.{fields_of, lines_of, tail_of}
@@ -23,7 +23,7 @@ pub record Refuses (Kind : List ℕ → Type 0) (first : ℕ) (ls : List (List �
   pub field : k < length ls → (f.cause ≡ FieldCount → ⊥) → (other : List ℕ) → k < length (lines_of other) → take k (lines_of other) ≡ take k ls → take f.field (fields_of (get_or (lines_of other) k [])) ≡ take f.field (fields_of (get_or ls k [])) → Kind other → ⊥
   pub past : length ls ≤ k → (f.cause ≡ EndsInside) × (f.field ≡ 0)
 
-pub refuses_from_err : (first : ℕ) (ls : List (List ℕ)) (tail : List ℕ) (f : Fault) → All (Free 10) ls → read_from begun first ls tail ≡ Err f → Refuses SomeRecipe first ls f
+pub refuses_from_err : (first : ℕ) (ls : List (List ℕ)) (tail : List ℕ) (f : Fault) → AllByRecursion (Free 10) ls → read_from begun first ls tail ≡ Err f → Refuses SomeRecipe first ls f
 refuses_from_err first ls tail f free h =
     let s = stops_from_err (between []) first ls tail f nothing_sound h in
     let k = s.k in

@@ -1,6 +1,6 @@
 -- Where the text of a report goes wrong, and the laws of its reading.
 use Rattle.std.proofs.Common.{◌≡◌, ℕ, suc, ◌+◌, ◌<◌, Bool, true, false, cond, leb, ◌⊎◌, List, [], ◌∷◌, ◌++◌, length, get_or, take, drop, pos, Some, None, Ok, Err, Option, Result, sym, refl, ap, ◌∙◌, subst, inl, inr, append_assoc, arith}
-use Rattle.std.specs.List.{flat_map, AllByRecursion as All}
+use Rattle.std.specs.List.{flat_map, AllByRecursion}
 use Rattle.std.proofs.ByRecursion.{All-take}
 use Rattle.std.proofs.lemmas.List.{append_cancel_left}
 use Rattle.std.proofs.lemmas.Int.{ints}
@@ -52,7 +52,7 @@ first_same : (l m : List ℕ) (ls ms : List (List ℕ)) → ◌≡◌ {A = List 
 first_same l m ls ms h = (ap (λ (xs : List (List ℕ)). get_or xs 0 []) h, ap (λ (xs : List (List ℕ)). drop 1 xs) h)
 
 -- what begins a request is a SET line and what begins a recipe
-request_begun : (l : List ℕ) (ms : List (List ℕ)) → All (Free 10) (l ∷ ms) → Begun SomeRequest (l ∷ ms) → (set_fault (fields_of l) ≡ None) × Begun SomeRecipe ms
+request_begun : (l : List ℕ) (ms : List (List ℕ)) → AllByRecursion (Free 10) (l ∷ ms) → Begun SomeRequest (l ∷ ms) → (set_fault (fields_of l) ≡ None) × Begun SomeRecipe ms
 request_begun l ms free b =
     let q = b.whole.0 in
     let text = flat_map ended (l ∷ ms) ++ b.more in
@@ -64,7 +64,7 @@ request_begun l ms free b =
       record { more = b.more; whole = (q.stages, subst (λ t. IsRecipe t q.stages) (sym rest) (recipe_behind text q b.whole.1)) },
     )
 
-set_refuses : (l : List ℕ) (ls : List (List ℕ)) (f : Fault) → All (Free 10) (l ∷ ls) → set_fault (fields_of l) ≡ Some f → Refuses SomeRequest 1 (l ∷ ls) f
+set_refuses : (l : List ℕ) (ls : List (List ℕ)) (f : Fault) → AllByRecursion (Free 10) (l ∷ ls) → set_fault (fields_of l) ≡ Some f → Refuses SomeRequest 1 (l ∷ ls) f
 set_refuses l ls f free h = record {
   k = 0;
   line-is = (set_named (fields_of l) f h).0;
@@ -77,7 +77,7 @@ set_refuses l ls f free h = record {
   past = λ le. absurd (omega arith);
 }
 
-recipe_refuses : (l : List ℕ) (ls : List (List ℕ)) (f : Fault) → All (Free 10) (l ∷ ls) → set_fault (fields_of l) ≡ None → Refuses SomeRecipe 2 ls f → Refuses SomeRequest 1 (l ∷ ls) f
+recipe_refuses : (l : List ℕ) (ls : List (List ℕ)) (f : Fault) → AllByRecursion (Free 10) (l ∷ ls) → set_fault (fields_of l) ≡ None → Refuses SomeRecipe 2 ls f → Refuses SomeRequest 1 (l ∷ ls) f
 recipe_refuses l ls f free none r =
     let k = r.k in
     record {
@@ -112,7 +112,7 @@ no_lines f is = record {
   past = λ le. (sym (ap (λ (x : Fault). x.cause) is), sym (ap (λ (x : Fault). x.field) is));
 }
 
-request_refuses : (ls : List (List ℕ)) (tail : List ℕ) (f : Fault) → All (Free 10) ls → request_from ls tail ≡ Err f → Refuses SomeRequest 1 ls f
+request_refuses : (ls : List (List ℕ)) (tail : List ℕ) (f : Fault) → AllByRecursion (Free 10) ls → request_from ls tail ≡ Err f → Refuses SomeRequest 1 ls f
 request_refuses [] tail f free h = no_lines f (same-fault _ f h)
 request_refuses (l ∷ ls) tail f free h = by (set_fault (fields_of l)) refl h
   where

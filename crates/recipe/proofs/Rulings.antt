@@ -1,7 +1,7 @@
 -- A line without fault: each field behind the word keeps its rule.
 use Rattle.std.proofs.Common.{◌≡◌, ℕ, zero, suc, ◌+◌, List, [], ◌∷◌, map, length, replicate, ℤ, pos, negsuc, Some, None, Option, sym, refl, ap, ◌∙◌, arith}
 use Rattle.std.specs.Fmt.{signed_decimal}
-use Rattle.std.specs.List.{AllByRecursion as All}
+use Rattle.std.specs.List.{AllByRecursion}
 use Rattle.recipe.specs.declared.fault.Cause.{Cause}
 use Rattle.recipe.specs.declared.fault.Fault.{Fault}
 use Rattle.recipe.specs.Fields.{value_of}
@@ -68,7 +68,7 @@ numbers-from fs k (g ∷ gs) at =
 -- the taps of a step or a row
 pub record Taps (n : ℕ) (gs : List (List ℕ)) : Type 0 where
   pub text : gs ≡ map signed_decimal (map value_of gs)
-  pub limits : All LawfulTap (map value_of gs)
+  pub limits : AllByRecursion LawfulTap (map value_of gs)
   pub count : length gs ≡ n
 
 pub taps_from_fits : (n : ℕ) (gs : List (List ℕ)) → Fits (replicate n tap_rule) gs → Taps n gs
@@ -80,10 +80,10 @@ taps_from_fits (suc n) (g ∷ gs) h =
     let rest = taps_from_fits n gs h.1 in
     record { text = λ i. one.text i ∷ rest.text i; limits = ((one.low, one.high), rest.limits); count = ap suc rest.count }
 
-pub fits-from-taps : (zs : List ℤ) → All LawfulTap zs → Fits (replicate (length zs) tap_rule) (map signed_decimal zs)
+pub fits-from-taps : (zs : List ℤ) → AllByRecursion LawfulTap zs → Fits (replicate (length zs) tap_rule) (map signed_decimal zs)
 fits-from-taps [] h = tt
 fits-from-taps (z ∷ zs) h = (fits-from-within (negsuc 32767) (pos 32767) z tap_small h.0.0 h.0.1, fits-from-taps zs h.1)
 
-pub taps_values : (zs : List ℤ) → All LawfulTap zs → map value_of (map signed_decimal zs) ≡ zs
+pub taps_values : (zs : List ℤ) → AllByRecursion LawfulTap zs → map value_of (map signed_decimal zs) ≡ zs
 taps_values [] h = refl
 taps_values (z ∷ zs) h = λ i. within-value (negsuc 32767) (pos 32767) z tap_small h.0.0 h.0.1 i ∷ taps_values zs h.1 i

@@ -1,7 +1,7 @@
 -- The SET line, from its text and back.
 use Rattle.std.proofs.Common.{◌≡◌, ℕ, suc, ◌<◌, ◌≤◌, Bool, true, false, cond, leb, List, [], ◌∷◌, length, take, ℤ, pos, negsuc, ◌≤ℤ◌, Some, None, codes, decimal, Option, sym, refl, ap, ◌∙◌, subst, arith}
 use Rattle.std.specs.Fmt.{signed_decimal}
-use Rattle.std.specs.List.{AllByRecursion as All}
+use Rattle.std.specs.List.{AllByRecursion}
 use Rattle.std.proofs.lemmas.Int.{ints}
 use Rattle.std.proofs.lemmas.Bool.{eqb-true, leb-true, le-leb, and_parts, and_from}
 use Rattle.sets.specs.declared.bounds.Bounds.{Bounds}
@@ -148,7 +148,7 @@ module _ (f : Shape) (b : Bounds) (shape : in_limits f ≡ true) (span : LawfulB
       let pg = within-value b.least (pos 2147483647) b.greatest (greatest_small b.least span.low) span.ordered span.high in
       λ i. record { least = least_value i; greatest = pg i }
 
-  pub free_set : (s : ℕ) → s < 45 → All (Free s) (set_line f b)
+  pub free_set : (s : ℕ) → s < 45 → AllByRecursion (Free s) (set_line f b)
   free_set s low =
       let l = limits_in f shape in
       (free_word s (codes "SET") low refl, (free_natural s f.channels low (omega (arith, l.channels)), (free_natural s f.samples low (omega (arith, l.samples)), (free_natural s f.origin low (omega (arith, l.origin)), (within-free s (negsuc 2147483647) (pos 2147483647) b.least low least_small span.low least_most, (within-free s b.least (pos 2147483647) b.greatest low (greatest_small b.least span.low) span.ordered span.high, tt))))))

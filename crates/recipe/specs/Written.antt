@@ -1,6 +1,6 @@
 -- The text of a recipe, written from its stages in one way only, and what the reading answers to it.
 use Rattle.std.specs.Prelude.{◌≡◌, ℕ, ◌+◌, ◌-◌, ◌<◌, ◌≤◌, List, [], ◌∷◌, ◌++◌, map, length, take, ℤ, pos, negsuc, ◌≤ℤ◌, Ok, Err, codes, decimal, ◌≢◌, slice_index_or}
-use Rattle.std.specs.List.{flat_map, AllByRecursion as All}
+use Rattle.std.specs.List.{flat_map, AllByRecursion}
 use Rattle.std.specs.Fmt.{signed_decimal}
 use Rattle.stages.specs.Channels.{half_of}
 use Rattle.stages.specs.declared.stage.Axis.{Axis}
@@ -80,7 +80,7 @@ pub record LawfulStep (s : PlainStep) : Type 0 where
   pub high : s.residue ≤ℤ pos 65536
   pub some : 1 ≤ length s.taps
   pub few : length s.taps ≤ 8
-  pub taps : All LawfulTap s.taps
+  pub taps : AllByRecursion LawfulTap s.taps
 
 -- the limits of a lifting apart from its steps; that the first channel is at most 63 follows
 pub record LawfulLift (l : PlainLift) : Type 0 where
@@ -93,7 +93,7 @@ pub record LawfulRow (i : ℕ) (r : PlainRow) : Type 0 where
   pub exponent : r.exponent ≤ 16
   pub residue : r.residue ≡ pos (half_of r.exponent)
   pub count : length r.taps ≡ i
-  pub taps : All LawfulTap r.taps
+  pub taps : AllByRecursion LawfulTap r.taps
 
 -- the limits of rows, of which the first is row i
 abbrev pub LawfulRows : ℕ → List PlainRow → Type 0
@@ -102,13 +102,13 @@ LawfulRows i (r ∷ rs) = LawfulRow i r × LawfulRows (i + 1) rs
 
 -- the limits of a stage
 abbrev pub Lawful : Plain → Type 0
-Lawful (lift l ss) = LawfulLift l × (1 ≤ length ss) × (length ss ≤ 4) × All LawfulStep ss
+Lawful (lift l ss) = LawfulLift l × (1 ≤ length ss) × (length ss ≤ 4) × AllByRecursion LawfulStep ss
 Lawful (dep first rs) = (first + (1 + length rs) ≤ 64) × (1 ≤ length rs) × (length rs ≤ 7) × LawfulRows 1 rs
 Lawful (rct first) = first ≤ 61
 
 -- at most 16 stages, each within its limits
 pub record LawfulStages (ts : List Plain) : Type 0 where
-  pub each : All Lawful ts
+  pub each : AllByRecursion Lawful ts
   pub few : length ts ≤ 16
 
 -- the text is the recipe of these stages
