@@ -1,6 +1,5 @@
 -- One line, channel or stage more of a report.
-use Rattle.std.proofs.Common.{◌≡◌, ℕ, zero, suc, ◌+◌, ◌<◌, List, [], ◌∷◌, ◌++◌, map, length, get_or, drop, replicate, Some, None, Ok, Err, Option, Result, sym, refl, ap, ◌∙◌, arith}
-use Rattle.std.specs.List.{slice_get}
+use Rattle.std.proofs.Common.{◌≡◌, ℕ, ◌+◌, ◌<◌, List, [], ◌∷◌, ◌++◌, length, get_or, drop, replicate, Some, None, Ok, Err, Option, Result, sym, refl, ap, ◌∙◌, arith}
 use Rattle.std.proofs.lemmas.List.{drop_more}
 use Rattle.sets.specs.declared.bounds.Bounds.{Bounds}
 use Rattle.sets.specs.declared.refusal.Refusal.{Refusal}
@@ -8,17 +7,14 @@ use Rattle.sets.specs.declared.shape.Shape.{Shape}
 use Rattle.sets.specs.Ordered.{no_bounds}
 use Rattle.sets.specs.Refusals.{number_of}
 use Rattle.sets.specs.Sets.{bounds_of}
-use Rattle.stages.specs.declared.stage.Stage.{Stage}
-use Rattle.stages.specs.Plain.{Plain, plain}
+use Rattle.stages.specs.Plain.{Plain}
 use Rattle.stages.specs.Stages.{spans_after, spans_refused, spans_left, answered}
 use Rattle.recipe.specs.declared.fault.Fault.{Fault}
 use Rattle.recipe.specs.declared.request.Request.{Request}
-use Rattle.recipe.specs.declared.table.Recipe.{Recipe}
 use Rattle.recipe.specs.Causes.{number_of as cause_number}
 use Rattle.recipe.specs.Replies.{answered as replied}
 use Rattle.recipe.specs.Requests.{requested}
-use Rattle.recipe.specs.Tables.{stages_of, table_of}
-use Rattle.reporting.specs.declared.line.Line.{Line}
+use Rattle.recipe.specs.Tables.{table_of}
 use Rattle.reporting.specs.declared.line.Line.TheVariants.{Span, Refused}
 use Rattle.reporting.specs.Lines.{channel_lines, stage_lines, request_lines, report_lines}
 

@@ -1,5 +1,5 @@
 -- The lines of a report by their places.
-use Rattle.std.proofs.Common.{◌≡◌, ℕ, zero, suc, ◌+◌, ◌*◌, ◌<◌, List, [], ◌∷◌, ◌++◌, length, get_or, take, replicate, Some, None, Ok, Option, sym, refl, ap, ◌∙◌, subst, add-zero, suc-mul, zero-add, zero-mul, add-one, arith, length-append}
+use Rattle.std.proofs.Common.{◌≡◌, ℕ, zero, suc, ◌+◌, ◌*◌, ◌<◌, List, [], ◌∷◌, ◌++◌, length, get_or, take, Some, None, Ok, sym, refl, ap, ◌∙◌, subst, add-zero, suc-mul, zero-add, zero-mul, add-one, arith, length-append}
 use Rattle.std.proofs.lemmas.List.{length-replicate}
 use Rattle.std.proofs.lemmas.List.FromFn.{length-map-range_with_len}
 use Rattle.std.proofs.lemmas.List.{get_or_append_left, get_or-append-add}
@@ -13,7 +13,7 @@ use Rattle.stages.specs.Lifting.{lift_after}
 use Rattle.stages.specs.Plain.{Plain, PlainLift, PlainStep, lift, dep, rct}
 use Rattle.stages.specs.Ranges.{at}
 use Rattle.stages.specs.Stages.{spans_after, spans_refused}
-use Rattle.recipe.specs.Requests.{PlainRequest, requested}
+use Rattle.recipe.specs.Requests.{PlainRequest}
 use Rattle.reporting.specs.declared.line.Line.{Line}
 use Rattle.reporting.specs.declared.line.Line.TheVariants.{Span, Refused}
 use Rattle.reporting.specs.Laws.{Leads, stay, go, Tells, ReportLaws, start}

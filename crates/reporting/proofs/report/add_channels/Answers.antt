@@ -1,4 +1,4 @@
-use Rattle.std.proofs.Common.{◌≡◌, ◌+◌, List, [], ◌++◌, drop, vec_items, sym, refl, ap, ◌∙◌, append_assoc, append-nil, arith, w32, SFits, rules}
+use Rattle.std.proofs.Common.{◌+◌, ◌++◌, drop, vec_items, sym, ap, ◌∙◌, append_assoc, append-nil, arith, w32, SFits, rules}
 use Rattle.std.proofs.lemmas.List.{drop_all}
 use Rattle.std.proofs.lemmas.Int.{to_z-of_z}
 use Rattle.sets.specs.Sets.{rows_of, bounds_of}
@@ -14,7 +14,7 @@ loop-channel-preserved c =
     let n = c.loop-channel.channel in
     let rows = rows_of c.args.spans.now in
     let found = c.in-Some.ensures in
-    ap (λ l. l ++ channel_lines k (n + 1) (drop (n + 1) rows)) (simp to_z-of_z at c.in-ok-push.ensures.items)
+    ap (λ l. l ++ channel_lines k (n + 1) (drop (n + 1) rows)) (simp to_z-of_z at c.in_ok-push.ensures.items)
     ∙ append_assoc (vec_items c.loop-channel.lines) _ _
     ∙ ap (λ l. vec_items c.loop-channel.lines ++ l) (sym (channel_lines-more k n (bounds_of c.in-Some.span) rows found.0 found.1))
     ∙ c.loop-channel.invariant

@@ -1,4 +1,4 @@
-use Rattle.std.proofs.Common.{◌≡◌, ◌+◌, List, [], ◌∷◌, ◌++◌, drop, vec_items, sym, refl, ap, ◌∙◌, append_assoc, append-nil, arith, rules}
+use Rattle.std.proofs.Common.{◌+◌, [], ◌∷◌, ◌++◌, drop, vec_items, sym, refl, ap, ◌∙◌, append_assoc, append-nil, arith}
 use Rattle.std.proofs.lemmas.List.{drop_all, length-map}
 use Rattle.sets.specs.Sets.{rows_of}
 use Rattle.stages.specs.Plain.{plain}
@@ -12,7 +12,7 @@ use Rattle.reporting.proofs.report.add_stages.Goals as goal
 pub loop-k-init : goal.loop-k-init
 loop-k-init c =
     let q = c.args.request.now in
-    ap (λ bs. vec_items c.args.lines.now ++ stage_lines q.shape 0 (table_of q.recipe) bs) c.one-for-each-spans.ensures
+    ap (λ bs. vec_items c.args.lines.now ++ stage_lines q.shape 0 (table_of q.recipe) bs) c.one_for_each-spans.ensures
 
 pub loop-k-preserved : goal.loop-k-preserved
 loop-k-preserved c =
@@ -23,7 +23,7 @@ loop-k-preserved c =
     let found = table_at q.recipe k c.in-Some.stage (plain c.in-Some.stage) (sym c.in-Some.ensures) in
     let fine = refused_none _ _ (sym c.spans.ensures.answer ∙ c.in_default-spans.is) in
     let after = left_after q.shape s bs _ fine c.spans.ensures.after in
-    ap (λ l. l ++ stage_lines q.shape (k + 1) (drop (k + 1) (table_of q.recipe)) (rows_of c.spans.new.spans)) (c.in-ok-add-channels.ensures refl)
+    ap (λ l. l ++ stage_lines q.shape (k + 1) (drop (k + 1) (table_of q.recipe)) (rows_of c.spans.new.spans)) (c.in_ok-add_channels.ensures refl)
     ∙ append_assoc (vec_items c.loop-k.lines) _ _
     ∙ ap (λ l. vec_items c.loop-k.lines ++ l) (ap (λ ds. channel_lines k 0 ds ++ stage_lines q.shape (k + 1) (drop (k + 1) (table_of q.recipe)) ds) after ∙ sym (stage_lines-more q.shape k s (table_of q.recipe) bs found.0 found.1 fine))
     ∙ c.loop-k.invariant
@@ -37,7 +37,7 @@ returns-in-Err c =
     let found = table_at q.recipe k c.in-Some.stage (plain c.in-Some.stage) (sym c.in-Some.ensures) in
     let why = refused_some _ c.in-Err.refusal (sym c.spans.ensures.answer ∙ c.in-Err.is) in
     λ _.
-    c.in-ok-push.ensures.items
+    c.in_ok-push.ensures.items
     ∙ ap (λ n. vec_items c.loop-k.lines ++ (Refused n k 0 ∷ [])) c.number-number.ensures
     ∙ ap (λ l. vec_items c.loop-k.lines ++ l) (sym (stage_lines-refused q.shape k s (table_of q.recipe) bs found.0 found.1 _ why))
     ∙ c.loop-k.invariant
