@@ -3,6 +3,8 @@
 // A line of the script is a word and numbers, parted by commas: SHAPE, SPANS and AREA give what the calls are passed,
 // RECIPE (its lines follow, a tab before each) and CLASSIC say which rack is called, and COUNT, LIST, WIDEN, APPLY and
 // UNDO call it.
+#![tactic(auto)]
+
 use anyhow::anyhow;
 use classic::table::Classic;
 use rack::rack::Rack;

@@ -1,4 +1,6 @@
 // Reads a SET line and a recipe from standard input, and prints the spans of every channel after every stage.
+#![tactic(auto)]
+
 use reporting::report::report;
 use std::io;
 use std::io::{BufWriter, Read, Write};

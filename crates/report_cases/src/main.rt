@@ -1,4 +1,6 @@
 // Reports on many texts, one after another: standard input has for each the number of its bytes, a line feed, and the bytes.
+#![tactic(auto)]
+
 use reporting::report::report;
 use std::alloc::Global;
 use std::io;

@@ -1,6 +1,8 @@
 // Takes a recording through every stage of a recipe and back, and prints what each stage did.
 //
 //     walkthrough SET RECIPE     the files of a recording and of a recipe
+#![tactic(auto)]
+
 use anyhow::anyhow;
 use rack::rack::Rack;
 use rack::stages::Stages;
