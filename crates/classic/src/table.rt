@@ -1,4 +1,4 @@
-ghost use Rattle.std.specs.Prelude.{◌≡◌, ◌≤◌, min, [], ◌∷◌, pos, negsuc, ◌≤ℤ◌};
+ghost use Rattle.std.specs.Prelude.{◌≡◌, ◌≤◌, min, [], ◌∷◌};
 ghost use Rattle.stages.specs.Plain.{plain, plain_step};
 ghost use Rattle.stages.specs.Worked.{five_three, step};
 ghost use Rattle.classic.specs.Classic.{classic_stage};
@@ -14,7 +14,7 @@ pub struct Classic;
 
 // A step of two equal taps.
 fn two_taps(offset: i32, exponent: u32, residue: i32, tap: i16) -> Step
-    requires { (negsuc 7 ≤ℤ offset) × ((offset ≤ℤ pos 8) × (exponent ≤ 16)) }
+    requires { exponent ≤ 16 }
     ensures { plain_step result ≡ step offset exponent residue (tap ∷ tap ∷ []) }
 {
     Step {

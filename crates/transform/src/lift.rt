@@ -46,7 +46,7 @@ fn turn_positions<const UNDO: bool>(turn: &Turn, from: usize, to: usize, area: &
     }
 }
 
-// So many positions from an end of a line on, all that a step with an offset of -7 to 8 reads is inside.
+// So many positions from an end of a line on, all that a step with an offset of -8 to 8 reads is inside.
 const MARGIN: usize = 32;
 
 // A step along the samples, at the positions of its parity from `from` on. Those near the ends are worked out one by one, and all
@@ -58,7 +58,7 @@ fn turn_channels<const UNDO: bool>(turn: &Turn, from: usize, area: &mut [i32])
 {
     let end = turn.lines.count;
     let start = from + MARGIN;
-    let near = turn.step.offset >= -7 && turn.step.offset <= 8;
+    let near = turn.step.offset >= -8 && turn.step.offset <= 8;
     if !near || end < start + MARGIN {
         turn_positions::<UNDO>(turn, from, end, area);
         return;
