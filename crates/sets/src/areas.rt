@@ -2,7 +2,7 @@ ghost use Rattle.std.specs.Prelude.{◌≡◌, length};
 ghost use Rattle.sets.specs.Areas.{at, span_at, holds, every, within};
 ghost use Rattle.sets.specs.Sets.{rows_of};
 
-use crate::bounds::Bounds;
+use crate::bounds::{Bounds, NO_BOUNDS};
 use crate::shape::Shape;
 use crate::span_list::SpanList;
 
@@ -24,28 +24,17 @@ impl SpanList {
     fn bounds(&self, row: usize) -> Bounds
         ensures { result ≡ span_at (rows_of self.now) row }
     {
-        match self.get(row) {
-            Some(span) => Bounds {
-                least: span.least,
-                greatest: span.greatest,
-            },
-            None => Bounds {
-                least: 0,
-                greatest: 0,
-            },
-        }
+        self.rows[..self.len].get(row).copied().unwrap_or(NO_BOUNDS)
     }
 
     // Whether the area is as long as the shape says, and each sample lies in its channel's span.
     pub fn hold(&self, shape: &Shape, area: &[i32]) -> bool
         ensures { result ≡ within shape.now (rows_of self.now) area.now }
     {
-        let Some(size) = shape.channels.checked_mul(shape.samples) else {
-            return false;
-        };
-        if area.len() != size {
+        if shape.channels.checked_mul(shape.samples) != Some(area.len()) {
             return false;
         }
+        // By number, since a channel's samples are the part of the area that starts at its number times their count.
         for c in 0..shape.channels {
             let bounds = self.bounds(c);
             let from = c * shape.samples;

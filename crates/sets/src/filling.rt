@@ -1,8 +1,8 @@
-ghost use Rattle.std.specs.Prelude.{◌≡◌, [], ◌∷◌, ◌++◌, length, is_ok, if◌then◌else◌, Ok, Err, nat_lt};
+ghost use Rattle.std.specs.Prelude.{◌≡◌, [], ◌∷◌, ◌++◌, length, is_ok, if◌then◌else◌, Ok, Err, nat_lt, nat_le, MatchResult, replicate};
 ghost use Rattle.sets.specs.declared.refusal.Refusal.TheVariants.{SpanCount};
 ghost use Rattle.sets.specs.Sets.{bounds_of, rows_of};
 
-use crate::bounds::Bounds;
+use crate::bounds::NO_BOUNDS;
 use crate::refusal::Refusal;
 use crate::span::Span;
 use crate::span_list::SpanList;
@@ -13,10 +13,7 @@ impl SpanList {
         ensures { rows_of result ≡ [] }
     {
         SpanList {
-            rows: [Bounds {
-                least: 0,
-                greatest: 0,
-            }; 64],
+            rows: [NO_BOUNDS; 64],
             len: 0,
         }
     }
@@ -29,11 +26,22 @@ impl SpanList {
         if self.len >= 64 {
             return Err(Refusal::SpanCount);
         }
-        self.rows[self.len] = Bounds {
-            least: span.least,
-            greatest: span.greatest,
-        };
+        self.rows[self.len] = span.into();
         self.len += 1;
         Ok(())
+    }
+
+    // The same span for each of so many channels. More than 64 are refused.
+    pub fn repeat(span: Span, channels: usize) -> Result<SpanList, Refusal>
+        ensures test { is_ok result ≡ nat_le channels 64 }
+        ensures cases { MatchResult result (λ l. rows_of l ≡ replicate channels (bounds_of span)) (λ e. e ≡ SpanCount) }
+    {
+        if channels > 64 {
+            return Err(Refusal::SpanCount);
+        }
+        Ok(SpanList {
+            rows: [span.into(); 64],
+            len: channels,
+        })
     }
 }

@@ -17,10 +17,7 @@ impl SpanList {
     pub fn get(&self, row: usize) -> Option<Span>
         ensures { MatchOption result (length (rows_of self.now) ≤ row) (λ s. (row < length (rows_of self.now)) × (bounds_of s ≡ slice_index_or (rows_of self.now) row no_bounds)) }
     {
-        if row >= self.len {
-            return None;
-        }
-        let found = self.rows[row];
+        let found = self.rows[..self.len].get(row)?;
         Some(Span {
             least: found.least,
             greatest: found.greatest,

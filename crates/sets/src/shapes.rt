@@ -10,10 +10,8 @@ impl Shape {
     pub fn check(&self) -> Result<(), Refusal>
         ensures { result ≡ (if in_limits self.now then Ok tt else Err BadShape) }
     {
-        if self.channels >= 1
-            && self.channels <= 64
-            && self.samples >= 1
-            && self.samples <= 1048576
+        if matches!(self.channels, 1..=64)
+            && matches!(self.samples, 1..=1048576)
             && self.origin <= 1048575
         {
             Ok(())

@@ -4,6 +4,7 @@ ghost use Rattle.sets.specs.Ordered.{Ordered, NoneBelow, NoneAbove};
 use crate::bounds::Bounds;
 
 // A list of at most 64 spans, one for each channel. Past `len` stands nothing of meaning.
+// An array and its length, and no vector: lists are copied freely, and nothing here may run out of memory.
 #[derive(Clone, Copy)]
 pub struct SpanList {
     pub(crate) rows: [Bounds; 64],

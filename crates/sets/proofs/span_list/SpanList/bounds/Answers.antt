@@ -1,8 +1,6 @@
-use Rattle.std.proofs.Common.{sym}
-use Rattle.std.proofs.lemmas.List.{get_or_past}
+use Rattle.std.proofs.Common.{◌∙◌, arith}
 use Rattle.sets.specs.Ordered.{no_bounds}
-use Rattle.sets.specs.Sets.{rows_of}
 use Rattle.sets.proofs.span_list.SpanList.bounds.Goals as goal
 
-pub returns-in-None : goal.returns-in-None
-returns-in-None c = sym (get_or_past (rows_of c.args.self.now) c.args.row no_bounds c.in-None.ensures)
+pub returns : goal.returns
+returns c = rw c.copied.ensures at c.unwrap_or.ensures ∙ c.get.ensures.lookup.4 (omega arith) no_bounds

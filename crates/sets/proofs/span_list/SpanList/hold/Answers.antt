@@ -22,15 +22,15 @@ answer-of-channel f bs xs c b r h long is e = sym (e ∙ every-of-part f xs c (h
 
 pub returns-then-not-hold : goal.returns-then-not-hold
 returns-then-not-hold c =
-    let long : length c.args.area.now ≡ size_of c.args.shape.now = omega (arith, c.in-Some.ensures) in
+    let long : length c.args.area.now ≡ size_of c.args.shape.now = search rules in
     sym (within-fails c.args.shape.now (rows_of c.args.self.now) c.args.area.now c.loop-c.c c.loop-c-test.true (answer-of-channel c.args.shape.now _ _ _ _ _ c.loop-c-test.true long c.bounds-bounds.ensures c.if-not-hold.ensures))
 
 pub loop-c-preserved : goal.loop-c-preserved
 loop-c-preserved c =
-    let long : length c.args.area.now ≡ size_of c.args.shape.now = omega (arith, c.in-Some.ensures) in
+    let long : length c.args.area.now ≡ size_of c.args.shape.now = search rules in
     below_more _ _ c.loop-c.invariant (answer-of-channel c.args.shape.now _ _ _ _ _ c.loop-c-test.true long c.bounds-bounds.ensures c.if-not-hold.ensures)
 
 pub returns : goal.returns
 returns c =
-    let long : length c.args.area.now ≡ size_of c.args.shape.now = omega (arith, c.in-Some.ensures) in
+    let long : length c.args.area.now ≡ size_of c.args.shape.now = search rules in
     sym (within-each c.args.shape.now (rows_of c.args.self.now) c.args.area.now long (λ k h. c.loop-c.invariant k (omega arith)))
