@@ -28,29 +28,22 @@ fn two_taps(offset: i32, exponent: u32, residue: i32, tap: i16) -> Step
     }
 }
 
-// The 5-3 kernel, mirrored, on channels 0 to `channels` - 1 along an axis. A lifting has at most 64 channels and level 15.
-fn kernel(axis: Axis, channels: usize, level: u32) -> Stage
-    requires { (channels ≤ 64) × (level ≤ 15) }
-    ensures { plain result ≡ five_three axis channels level }
+// The 5-3 kernel, mirrored, on the first channels along an axis. A lifting has at most 64 channels and level 15.
+pub fn five_three(axis: Axis, channels: usize, level: u32) -> Stage
+    ensures { plain result ≡ five_three axis (min channels 64) (min level 15) }
 {
     let odd = two_taps(0, 1, 1, -1);
     let even = two_taps(-1, 2, 2, 1);
     Stage::Lift(Lift {
         axis,
         first: 0,
-        count: channels,
-        level,
+        count: channels.min(64),
+        level: level.min(15),
         extension: Extension::Mirrored,
         parity: Parity::Odd,
         steps: [odd, even, even, even],
         step_count: 2,
     })
-}
-
-pub fn five_three(axis: Axis, channels: usize, level: u32) -> Stage
-    ensures { plain result ≡ five_three axis (min channels 64) (min level 15) }
-{
-    kernel(axis, channels.min(64), level.min(15))
 }
 
 impl Table for Classic {
@@ -68,7 +61,7 @@ impl Table for Classic {
         if number == 0 {
             Stage::Rct(Rct { first: 0 })
         } else {
-            kernel(Axis::Time, channels.min(64), (number - 1) as u32)
+            five_three(Axis::Time, channels, (number - 1) as u32)
         }
     }
 }

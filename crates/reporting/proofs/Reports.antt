@@ -5,17 +5,15 @@ use Rattle.sets.specs.declared.bounds.Bounds.{Bounds}
 use Rattle.sets.specs.declared.refusal.Refusal.{Refusal}
 use Rattle.sets.specs.declared.shape.Shape.{Shape}
 use Rattle.sets.specs.Ordered.{no_bounds}
-use Rattle.sets.specs.Refusals.{number_of}
 use Rattle.sets.specs.Sets.{bounds_of}
 use Rattle.stages.specs.Plain.{Plain}
 use Rattle.stages.specs.Stages.{spans_after, spans_refused, spans_left, answered}
 use Rattle.recipe.specs.declared.fault.Fault.{Fault}
 use Rattle.recipe.specs.declared.request.Request.{Request}
-use Rattle.recipe.specs.Causes.{number_of as cause_number}
 use Rattle.recipe.specs.Replies.{answered as replied}
 use Rattle.recipe.specs.Requests.{requested}
 use Rattle.recipe.specs.Tables.{table_of}
-use Rattle.reporting.specs.declared.line.Line.TheVariants.{Span, Refused}
+use Rattle.reporting.specs.declared.line.Line.TheVariants.{Span, Fault as FaultLine, Refused}
 use Rattle.reporting.specs.Lines.{channel_lines, stage_lines, request_lines, report_lines}
 
 pub channel_lines-more : (k c : ℕ) (b : Bounds) (bs : List Bounds) → c < length bs → b ≡ get_or bs c no_bounds → channel_lines k c (drop c bs) ≡ Span k c b.least b.greatest ∷ channel_lines k (c + 1) (drop (c + 1) bs)
@@ -25,11 +23,11 @@ channel_lines-more k c b bs h e = ap (channel_lines k c) (drop_more bs c no_boun
 module _ (f : Shape) (k : ℕ) (s : Plain) (ts : List Plain) (bs : List Bounds) (h : k < length ts) (e : get_or ts k s ≡ s) where
   pub stage_lines-more : spans_refused f s bs ≡ None → stage_lines f k (drop k ts) bs ≡ channel_lines k 0 (spans_after f s bs) ++ stage_lines f (k + 1) (drop (k + 1) ts) (spans_after f s bs)
   unfolding stage_lines
-  stage_lines-more n = ap (λ l. stage_lines f k l bs) (drop_more ts k s h ∙ ap (λ x. x ∷ drop (k + 1) ts) e) ∙ ap (λ o. elim o [ None ↦ channel_lines k 0 (spans_after f s bs) ++ stage_lines f (k + 1) (drop (k + 1) ts) (spans_after f s bs) | Some r ↦ Refused (number_of r) k 0 ∷ [] ]) n
+  stage_lines-more n = ap (λ l. stage_lines f k l bs) (drop_more ts k s h ∙ ap (λ x. x ∷ drop (k + 1) ts) e) ∙ ap (λ o. elim o [ None ↦ channel_lines k 0 (spans_after f s bs) ++ stage_lines f (k + 1) (drop (k + 1) ts) (spans_after f s bs) | Some r ↦ Refused k r ∷ [] ]) n
 
-  pub stage_lines-refused : (r : Refusal) → spans_refused f s bs ≡ Some r → stage_lines f k (drop k ts) bs ≡ Refused (number_of r) k 0 ∷ []
+  pub stage_lines-refused : (r : Refusal) → spans_refused f s bs ≡ Some r → stage_lines f k (drop k ts) bs ≡ Refused k r ∷ []
   unfolding stage_lines
-  stage_lines-refused r n = ap (λ l. stage_lines f k l bs) (drop_more ts k s h ∙ ap (λ x. x ∷ drop (k + 1) ts) e) ∙ ap (λ o. elim o [ None ↦ channel_lines k 0 (spans_after f s bs) ++ stage_lines f (k + 1) (drop (k + 1) ts) (spans_after f s bs) | Some q ↦ Refused (number_of q) k 0 ∷ [] ]) n
+  stage_lines-refused r n = ap (λ l. stage_lines f k l bs) (drop_more ts k s h ∙ ap (λ x. x ∷ drop (k + 1) ts) e) ∙ ap (λ o. elim o [ None ↦ channel_lines k 0 (spans_after f s bs) ++ stage_lines f (k + 1) (drop (k + 1) ts) (spans_after f s bs) | Some q ↦ Refused k q ∷ [] ]) n
 
 -- what an answer says of the refusal behind it
 pub refused_none : (o : Option Refusal) (u : Unit) → answered o ≡ Ok u → o ≡ None
@@ -51,6 +49,6 @@ pub accepted_lines : (text : List ℕ) (r : Result Request Fault) (p : Request) 
 unfolding report_lines
 accepted_lines text r p a e = ap request_lines (sym a ∙ ap replied e)
 
-pub refused_lines : (text : List ℕ) (r : Result Request Fault) (f : Fault) → replied r ≡ requested text → r ≡ Err f → report_lines text ≡ Refused (cause_number f.cause) f.line f.field ∷ []
+pub refused_lines : (text : List ℕ) (r : Result Request Fault) (f : Fault) → replied r ≡ requested text → r ≡ Err f → report_lines text ≡ FaultLine f ∷ []
 unfolding report_lines
 refused_lines text r f a e = ap request_lines (sym a ∙ ap replied e)

@@ -6,7 +6,6 @@ use Rattle.std.proofs.lemmas.List.{get_or_append_left, get_or-append-add}
 use Rattle.sets.specs.declared.bounds.Bounds.{Bounds}
 use Rattle.sets.specs.declared.refusal.Refusal.{Refusal}
 use Rattle.sets.specs.declared.shape.Shape.{Shape}
-use Rattle.sets.specs.Refusals.{number_of}
 use Rattle.stages.specs.declared.stage.Axis.{Axis}
 use Rattle.stages.specs.declared.stage.Axis.TheVariants.{Time, Channel}
 use Rattle.stages.specs.Lifting.{lift_after}
@@ -43,11 +42,11 @@ get_or-channel_lines k c (suc i) (b ∷ bs) d h = get_or-channel_lines k (c + 1)
 -- the lines from a stage that is not refused, and from one that is
 lines_on : (f : Shape) (j : ℕ) (s : Plain) (ss : List Plain) (bs : List Bounds) → spans_refused f s bs ≡ None → stage_lines f j (s ∷ ss) bs ≡ channel_lines j 0 (spans_after f s bs) ++ stage_lines f (j + 1) ss (spans_after f s bs)
 unfolding stage_lines
-lines_on f j s ss bs n = ap (λ o. elim o [ None ↦ channel_lines j 0 (spans_after f s bs) ++ stage_lines f (j + 1) ss (spans_after f s bs) | Some e ↦ Refused (number_of e) j 0 ∷ [] ]) n
+lines_on f j s ss bs n = ap (λ o. elim o [ None ↦ channel_lines j 0 (spans_after f s bs) ++ stage_lines f (j + 1) ss (spans_after f s bs) | Some e ↦ Refused j e ∷ [] ]) n
 
-lines_stop : (f : Shape) (j : ℕ) (s : Plain) (ss : List Plain) (bs : List Bounds) (e : Refusal) → spans_refused f s bs ≡ Some e → stage_lines f j (s ∷ ss) bs ≡ Refused (number_of e) j 0 ∷ []
+lines_stop : (f : Shape) (j : ℕ) (s : Plain) (ss : List Plain) (bs : List Bounds) (e : Refusal) → spans_refused f s bs ≡ Some e → stage_lines f j (s ∷ ss) bs ≡ Refused j e ∷ []
 unfolding stage_lines
-lines_stop f j s ss bs e n = ap (λ o. elim o [ None ↦ channel_lines j 0 (spans_after f s bs) ++ stage_lines f (j + 1) ss (spans_after f s bs) | Some r ↦ Refused (number_of r) j 0 ∷ [] ]) n
+lines_stop f j s ss bs e n = ap (λ o. elim o [ None ↦ channel_lines j 0 (spans_after f s bs) ++ stage_lines f (j + 1) ss (spans_after f s bs) | Some r ↦ Refused j r ∷ [] ]) n
 
 module _ (f : Shape) (n : ℕ) where
   -- behind the lines of a stage that is not refused come those of the next
@@ -82,19 +81,19 @@ module _ (f : Shape) (n : ℕ) where
       ∙ spans_at (j + 1) k c ss (spans_after f s bs) cs d (length-after f s bs ∙ long) (omega arith) g l
       ∙ ap (λ i. Span i c (at cs c).least (at cs c).greatest) m
 
-  ends_at : (j k : ℕ) (ss : List Plain) (bs cs : List Bounds) (s : Plain) (e : Refusal) (d : Line) → length bs ≡ n → k < length ss → s ≡ get_or ss k s → Leads f (take k ss) bs cs → spans_refused f s cs ≡ Some e → (get_or (stage_lines f j ss bs) (k * n) d ≡ Refused (number_of e) (j + k) 0) × (length (stage_lines f j ss bs) ≡ k * n + 1)
+  ends_at : (j k : ℕ) (ss : List Plain) (bs cs : List Bounds) (s : Plain) (e : Refusal) (d : Line) → length bs ≡ n → k < length ss → s ≡ get_or ss k s → Leads f (take k ss) bs cs → spans_refused f s cs ≡ Some e → (get_or (stage_lines f j ss bs) (k * n) d ≡ Refused (j + k) e) × (length (stage_lines f j ss bs) ≡ k * n + 1)
   ends_at j k [] bs cs s e d long h at l r = absurd (omega arith)
   ends_at j zero (t ∷ ss) bs cs s e d long h at stay r =
       let stop = lines_stop f j t ss bs e (subst (λ x. spans_refused f x bs ≡ Some e) at r) in
       let z : zero * n ≡ 0 = zero-mul n in (
-        ap (λ i. get_or (stage_lines f j (t ∷ ss) bs) i d) z ∙ ap (λ l. get_or l 0 d) stop ∙ ap (λ i. Refused (number_of e) i 0) (sym (add-zero j)),
+        ap (λ i. get_or (stage_lines f j (t ∷ ss) bs) i d) z ∙ ap (λ l. get_or l 0 d) stop ∙ ap (λ i. Refused i e) (sym (add-zero j)),
         ap length stop ∙ omega (arith, z),
       )
   ends_at j (suc k) (t ∷ ss) bs cs s e d long h at (go q l) r =
       let rest = ends_at (j + 1) k ss (spans_after f t bs) cs s e d (length-after f t bs ∙ long) (omega arith) at l r in
       let z : suc k * n ≡ n + k * n = omega (arith, suc-mul k n) in
       let m : j + 1 + k ≡ j + suc k = omega arith in (
-        ap (λ i. get_or (stage_lines f j (t ∷ ss) bs) i d) z ∙ past j (k * n) t ss bs d long q ∙ rest.0 ∙ ap (λ i. Refused (number_of e) i 0) m,
+        ap (λ i. get_or (stage_lines f j (t ∷ ss) bs) i d) z ∙ past j (k * n) t ss bs d long q ∙ rest.0 ∙ ap (λ i. Refused i e) m,
         omega (arith, length-on j t ss bs long q, rest.1, z),
       )
 
@@ -109,7 +108,7 @@ tells q =
     let long : length (start q) ≡ n = length-replicate n q.span in
     record {
       spans = λ k c cs d h g l. spans_at q.shape n 0 k c q.stages (start q) cs d long h g (subst (λ i. Leads q.shape (take i q.stages) (start q) cs) (add-one k) l) ∙ ap (λ i. Span i c (at cs c).least (at cs c).greatest) (zero-add k);
-      ends = λ k cs s e d h a l r. let z = ends_at q.shape n 0 k q.stages (start q) cs s e d long h a l r in (z.0 ∙ ap (λ i. Refused (number_of e) i 0) (zero-add k), z.1);
+      ends = λ k cs s e d h a l r. let z = ends_at q.shape n 0 k q.stages (start q) cs s e d long h a l r in (z.0 ∙ ap (λ i. Refused i e) (zero-add k), z.1);
       whole = λ cs l. length-all q.shape n 0 q.stages (start q) cs long l;
     }
 

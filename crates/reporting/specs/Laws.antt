@@ -3,7 +3,6 @@ use Rattle.std.specs.Prelude.{◌≡◌, ℕ, ◌+◌, ◌*◌, ◌<◌, List, [
 use Rattle.sets.specs.declared.bounds.Bounds.{Bounds}
 use Rattle.sets.specs.declared.refusal.Refusal.{Refusal}
 use Rattle.sets.specs.declared.shape.Shape.{Shape}
-use Rattle.sets.specs.Refusals.{number_of}
 use Rattle.stages.specs.Plain.{Plain}
 use Rattle.stages.specs.Ranges.{at}
 use Rattle.stages.specs.Stages.{spans_after, spans_refused}
@@ -27,7 +26,7 @@ start q = replicate q.shape.channels q.span
 -- where none is refused, there are no other lines.
 pub record Tells (q : PlainRequest) (lines : List Line) : Type 0 where
   pub spans : (k c : ℕ) (cs : List Bounds) (d : Line) → k < length q.stages → c < q.shape.channels → Leads q.shape (take (k + 1) q.stages) (start q) cs → slice_index_or lines (k * q.shape.channels + c) d ≡ Span k c (at cs c).least (at cs c).greatest
-  pub ends : (k : ℕ) (cs : List Bounds) (s : Plain) (e : Refusal) (d : Line) → k < length q.stages → s ≡ slice_index_or q.stages k s → Leads q.shape (take k q.stages) (start q) cs → spans_refused q.shape s cs ≡ Some e → (slice_index_or lines (k * q.shape.channels) d ≡ Refused (number_of e) k 0) × (length lines ≡ k * q.shape.channels + 1)
+  pub ends : (k : ℕ) (cs : List Bounds) (s : Plain) (e : Refusal) (d : Line) → k < length q.stages → s ≡ slice_index_or q.stages k s → Leads q.shape (take k q.stages) (start q) cs → spans_refused q.shape s cs ≡ Some e → (slice_index_or lines (k * q.shape.channels) d ≡ Refused k e) × (length lines ≡ k * q.shape.channels + 1)
   pub whole : (cs : List Bounds) → Leads q.shape q.stages (start q) cs → length lines ≡ length q.stages * q.shape.channels
 
 -- what the report of any text says

@@ -10,12 +10,13 @@ use Rattle.recipe.specs.declared.fault.Fault.{Fault}
 use Rattle.recipe.specs.Causes.{number_of as cause_number}
 use Rattle.recipe.specs.Requests.{PlainRequest, requested}
 use Rattle.reporting.specs.declared.line.Line.{Line}
-use Rattle.reporting.specs.declared.line.Line.TheVariants.{Span, Refused}
+use Rattle.reporting.specs.declared.line.Line.TheVariants.{Span, Fault as FaultLine, Refused}
 
 -- numbers in decimal, parted by commas
 abbrev pub text_of : Line → List ℕ
 text_of (Span stage channel least greatest) = decimal stage ++ (codes "," ++ (decimal channel ++ (codes "," ++ (signed_decimal least ++ (codes "," ++ signed_decimal greatest)))))
-text_of (Refused number place field) = codes "refused," ++ (decimal number ++ (codes "," ++ (decimal place ++ (codes "," ++ decimal field))))
+text_of (FaultLine fault) = codes "refused," ++ (decimal (cause_number fault.cause) ++ (codes "," ++ (decimal fault.line ++ (codes "," ++ decimal fault.field))))
+text_of (Refused stage refusal) = codes "refused," ++ (decimal (number_of refusal) ++ (codes "," ++ (decimal stage ++ codes ",0")))
 
 -- the spans of all channels after stage k, from channel c on
 unfoldable pub channel_lines : ℕ → ℕ → List Bounds → List Line
@@ -25,7 +26,7 @@ channel_lines k c (b ∷ bs) = Span k c b.least b.greatest ∷ channel_lines k (
 -- the lines of the stages from stage k on: a stage that is refused says only that, and ends the report
 unfoldable pub stage_lines : Shape → ℕ → List Plain → List Bounds → List Line
 stage_lines f k [] bs = []
-stage_lines f k (s ∷ ss) bs = elim (spans_refused f s bs) [ None ↦ channel_lines k 0 (spans_after f s bs) ++ stage_lines f (k + 1) ss (spans_after f s bs) | Some e ↦ Refused (number_of e) k 0 ∷ [] ]
+stage_lines f k (s ∷ ss) bs = elim (spans_refused f s bs) [ None ↦ channel_lines k 0 (spans_after f s bs) ++ stage_lines f (k + 1) ss (spans_after f s bs) | Some e ↦ Refused k e ∷ [] ]
 
 -- every channel begins with the one span of the SET line
 abbrev pub asked_lines : PlainRequest → List Line
@@ -33,7 +34,7 @@ asked_lines q = stage_lines q.shape 0 q.stages (replicate q.shape.channels q.spa
 
 abbrev pub request_lines : Result PlainRequest Fault → List Line
 request_lines (Ok q) = asked_lines q
-request_lines (Err f) = Refused (cause_number f.cause) f.line f.field ∷ []
+request_lines (Err f) = FaultLine f ∷ []
 
 -- the report of a text
 unfoldable pub report_lines : List ℕ → List Line

@@ -1,9 +1,11 @@
 ghost use Rattle.std.specs.Prelude.{Some};
 ghost use Rattle.reporting.specs.Lines.{text_of};
 
+use recipe::fault::Fault;
+use sets::refusal::Refusal;
 use std::fmt;
 
-// A line of a report: the span of a channel after a stage, or the refusal that ends the report.
+// A line of a report: the span of a channel after a stage, or what ends the report: a fault of the text, or a stage that is refused.
 #[derive(Clone, Copy)]
 pub enum Line {
     Span {
@@ -12,10 +14,10 @@ pub enum Line {
         least: i32,
         greatest: i32,
     },
+    Fault(Fault),
     Refused {
-        number: u8,
-        place: usize,
-        field: usize,
+        stage: usize,
+        refusal: Refusal,
     },
 }
 
@@ -30,11 +32,13 @@ impl fmt::Display for Line {
                 least,
                 greatest,
             } => write!(f, "{stage},{channel},{least},{greatest}"),
-            Line::Refused {
-                number,
-                place,
-                field,
-            } => write!(f, "refused,{number},{place},{field}"),
+            Line::Fault(fault) => {
+                let number = fault.cause.number();
+                let line = fault.line;
+                let field = fault.field;
+                write!(f, "refused,{number},{line},{field}")
+            }
+            Line::Refused { stage, refusal } => write!(f, "refused,{refusal},{stage},0"),
         }
     }
 }

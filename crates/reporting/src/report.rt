@@ -7,22 +7,8 @@ ghost use Rattle.reporting.specs.Lines.{asked_lines, channel_lines, report_lines
 use crate::line::Line;
 use recipe::ask::request;
 use recipe::request::Request;
-use sets::span::Span;
 use sets::span_list::SpanList;
 use std::alloc::{AllocError, Global};
-
-// The same span for each channel.
-fn one_for_each(span: &Span, channels: usize) -> SpanList
-    requires { channels ≤ 64 }
-    ensures { rows_of result ≡ replicate channels (bounds_of span.now) }
-{
-    let mut spans = SpanList::new();
-    for _channel in 0..channels {
-        // There is room, so the answer says nothing new.
-        let _ = spans.push(*span);
-    }
-    spans
-}
 
 // The spans after a stage, a line for each channel.
 fn add_channels(lines: &mut Vec<Line>, stage: usize, spans: &SpanList) -> Result<(), AllocError>
@@ -49,18 +35,15 @@ fn add_stages(lines: &mut Vec<Line>, request: &Request) -> Result<(), AllocError
     requires { in_limits request.now.shape ≡ true }
     ensures { is_ok result ≡ true → lines.new.items ≡ lines.old.items ++ asked_lines (plain_request request.now) }
 {
-    let mut spans = one_for_each(&request.span, request.shape.channels);
+    let Ok(mut spans) = SpanList::repeat(request.span, request.shape.channels) else {
+        unreachable()
+    };
     for k in 0..request.recipe.len() {
         let Some(stage) = request.recipe.get(k) else {
             unreachable()
         };
         if let Err(refusal) = stage.spans(&request.shape, &mut spans) {
-            let number = refusal.number();
-            lines.push(Line::Refused {
-                number,
-                place: k,
-                field: 0,
-            })?;
+            lines.push(Line::Refused { stage: k, refusal })?;
             return Ok(());
         }
         add_channels(lines, k, &spans)?;
@@ -74,14 +57,7 @@ fn lines_of(heap: Global, text: &[u8]) -> Result<Vec<Line>, AllocError>
     let mut lines = Vec::new(heap);
     match request(text) {
         Ok(request) => add_stages(&mut lines, &request)?,
-        Err(fault) => {
-            let number = fault.cause.number();
-            lines.push(Line::Refused {
-                number,
-                place: fault.line,
-                field: fault.field,
-            })?;
-        }
+        Err(fault) => lines.push(Line::Fault(fault))?,
     }
     Ok(lines)
 }

@@ -24,12 +24,20 @@ fn timed_spans(channels: usize) -> SpanList
         least: -8388608,
         greatest: 8388607,
     };
-    let mut spans = SpanList::new();
-    for _channel in 0..channels.min(64) {
-        // There is room, so the answer says nothing new.
-        let _ = spans.push(span);
-    }
+    let Ok(spans) = SpanList::repeat(span, channels.min(64)) else {
+        unreachable()
+    };
     spans
+}
+
+fn timed_shape(channels: usize, samples: usize) -> Shape
+    ensures { result ≡ timed_shape channels samples }
+{
+    Shape {
+        channels,
+        samples,
+        origin: 0,
+    }
 }
 
 // 0, or the number of the refusal.
@@ -47,11 +55,7 @@ fn number_of(answer: Result<(), Refusal>) -> u8
 pub extern "C" fn timing_apply(task: usize, channels: usize, samples: usize, area: &mut [i32]) -> u8
     ensures { Numbered (Applies timed_rack (timed_shape channels samples) task (timed_spans channels) area.old) result area.new }
 {
-    let shape = Shape {
-        channels,
-        samples,
-        origin: 0,
-    };
+    let shape = timed_shape(channels, samples);
     let spans = timed_spans(channels);
     number_of(Bank { table: Timed }.apply(&shape, task, &spans, area))
 }
@@ -61,11 +65,7 @@ pub extern "C" fn timing_apply(task: usize, channels: usize, samples: usize, are
 pub extern "C" fn timing_undo(task: usize, channels: usize, samples: usize, area: &mut [i32]) -> u8
     ensures { Numbered (Undoes timed_rack (timed_shape channels samples) task (timed_spans channels) area.old) result area.new }
 {
-    let shape = Shape {
-        channels,
-        samples,
-        origin: 0,
-    };
+    let shape = timed_shape(channels, samples);
     let spans = timed_spans(channels);
     number_of(Bank { table: Timed }.undo(&shape, task, &spans, area))
 }

@@ -1,9 +1,8 @@
-use Rattle.std.proofs.Common.{◌+◌, [], ◌∷◌, ◌++◌, drop, vec_items, sym, refl, ap, ◌∙◌, append_assoc, append-nil, arith}
+use Rattle.std.proofs.Common.{◌+◌, ◌++◌, drop, vec_items, sym, refl, ap, ◌∙◌, append_assoc, append-nil, arith}
 use Rattle.std.proofs.lemmas.List.{drop_all, length-map}
 use Rattle.sets.specs.Sets.{rows_of}
 use Rattle.stages.specs.Plain.{plain}
 use Rattle.recipe.specs.Tables.{stages_of, table_of}
-use Rattle.reporting.specs.declared.line.Line.TheVariants.{Refused}
 use Rattle.reporting.specs.Lines.{channel_lines, stage_lines}
 use Rattle.reporting.proofs.Reports.{stage_lines-more, stage_lines-refused, refused_none, refused_some, left_after}
 use Rattle.recipe.proofs.Handed.{table_at, nth_inside}
@@ -12,7 +11,7 @@ use Rattle.reporting.proofs.report.add_stages.Goals as goal
 pub loop-k-init : goal.loop-k-init
 loop-k-init c =
     let q = c.args.request.now in
-    ap (λ bs. vec_items c.args.lines.now ++ stage_lines q.shape 0 (table_of q.recipe) bs) c.one_for_each-spans.ensures
+    ap (λ bs. vec_items c.args.lines.now ++ stage_lines q.shape 0 (table_of q.recipe) bs) c.in-Ok.ensures.cases
 
 pub loop-k-preserved : goal.loop-k-preserved
 loop-k-preserved c =
@@ -38,7 +37,6 @@ returns-in-Err c =
     let why = refused_some _ c.in-Err.refusal (sym c.spans.ensures.answer ∙ c.in-Err.is) in
     λ _.
     c.in_ok-push.ensures.items
-    ∙ ap (λ n. vec_items c.loop-k.lines ++ (Refused n k 0 ∷ [])) c.number-number.ensures
     ∙ ap (λ l. vec_items c.loop-k.lines ++ l) (sym (stage_lines-refused q.shape k s (table_of q.recipe) bs found.0 found.1 _ why))
     ∙ c.loop-k.invariant
 
@@ -49,5 +47,5 @@ returns c =
     let k = c.loop-k.k in
     λ _. sym (append-nil (vec_items c.loop-k.lines)) ∙ ap (λ l. vec_items c.loop-k.lines ++ stage_lines q.shape k l (rows_of c.loop-k.spans)) (sym (drop_all k (table_of q.recipe) (omega (arith, length-map (stages_of q.recipe) plain)))) ∙ c.loop-k.invariant
 
-pub unreachable-requires : goal.unreachable-requires
-unreachable-requires c = nth_inside (stages_of c.args.request.now.recipe) c.loop-k.k (omega arith) (sym c.get.ensures ∙ c.in_default.is)
+pub unreachable-requires-in_default-get : goal.unreachable-requires-in_default-get
+unreachable-requires-in_default-get c = nth_inside (stages_of c.args.request.now.recipe) c.loop-k.k (omega arith) (sym c.get.ensures ∙ c.in_default-get.is)

@@ -1,5 +1,4 @@
-use Rattle.std.proofs.Common.{[], ◌∷◌, vec_items, sym, refl, ap, ◌∙◌}
-use Rattle.reporting.specs.declared.line.Line.TheVariants.{Refused}
+use Rattle.std.proofs.Common.{vec_items, sym, refl, ap, ◌∙◌}
 use Rattle.reporting.proofs.Reports.{accepted_lines, refused_lines, after_none}
 use Rattle.reporting.proofs.report.lines_of.Goals as goal
 use Rattle.reporting.proofs.report.lines_of.Goals.{in-Ok+in_ok-add_stages-in-Ok, in-Err+in_ok-push-in-Err}
@@ -18,6 +17,5 @@ returns c =
           ∙ sym (accepted_lines c.args.text.now _ w.in-Ok.request c.request.ensures.answer w.in-Ok.is)
       | in-Err+in_ok-push-in-Err w ↦
           ap vec_items w.lines-is ∙ after_none _ _ _ w.in_ok-push-in-Err.ensures.items none
-          ∙ ap (λ n. Refused n w.in-Err.fault.line w.in-Err.fault.field ∷ []) w.number-number.ensures
           ∙ sym (refused_lines c.args.text.now _ w.in-Err.fault c.request.ensures.answer w.in-Err.is)
     ]

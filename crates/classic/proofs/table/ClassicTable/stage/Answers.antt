@@ -1,4 +1,4 @@
-use Rattle.std.proofs.Common.{◌-◌, sym, ap, ◌∙◌, arith, eq-eqb}
+use Rattle.std.proofs.Common.{sym, ap, ◌∙◌, arith, eq-eqb, min}
 use Rattle.std.proofs.lemmas.Bool.{cond-true, cond-false, ne_eqb}
 use Rattle.stages.specs.declared.stage.Axis.TheVariants.{Time}
 use Rattle.stages.specs.Plain.{plain}
@@ -12,4 +12,4 @@ returns-then-number-eq0 c = sym (cond-true _ _ _ (eq-eqb c.args.number 0 (omega 
 pub returns-else-number-eq0 : goal.returns-else-number-eq0
 returns-else-number-eq0 c =
     let k = c.args.number in
-    c.kernel.ensures ∙ ap (λ n. five_three Time n (k - 1)) c.min.ensures ∙ sym (cond-false _ _ _ (ne_eqb k 0 c.if-number-eq0.false))
+    c.five_three.ensures ∙ ap (five_three Time (min c.args.channels 64)) (omega arith) ∙ sym (cond-false _ _ _ (ne_eqb k 0 c.if-number-eq0.false))
