@@ -20,14 +20,19 @@ use std::io;
 use std::io::{BufWriter, Read, Write};
 use transform::bank::Bank;
 
+// The rack that is called.
+#[derive(Clone, Copy)]
+enum Called {
+    Recipe(Recipe),
+    Classic,
+}
+
 // What the next call is passed.
 #[derive(Drop)]
 struct Lent {
     shape: Shape,
     spans: SpanList,
     area: Vec<i32>,
-    recipe: Recipe,
-    classic: bool,
 }
 
 fn numbers(heap: Global, head: &str) -> anyhow::Result<Vec<i32>> {
@@ -40,10 +45,10 @@ fn numbers(heap: Global, head: &str) -> anyhow::Result<Vec<i32>> {
 
 // The number at a place, as a size; 0 where there is none.
 fn size_at(values: &[i32], k: usize) -> usize {
-    match values.get(k) {
-        Some(x) => usize::try_from(*x).unwrap_or(0),
-        None => 0,
-    }
+    values
+        .get(k)
+        .and_then(|x| usize::try_from(*x).ok())
+        .unwrap_or(0)
 }
 
 fn span_list(values: &[i32]) -> Result<SpanList, Refusal> {
@@ -59,20 +64,15 @@ fn span_list(values: &[i32]) -> Result<SpanList, Refusal> {
 fn write_answer<W: Write>(out: &mut W, answer: Result<(), Refusal>) -> io::Result<()> {
     match answer {
         Ok(()) => write!(out, "ok"),
-        Err(refusal) => {
-            let number = refusal.number();
-            write!(out, "refused,{number}")
-        }
+        Err(refusal) => write!(out, "refused,{refusal}"),
     }
 }
 
 fn write_spans<W: Write>(out: &mut W, spans: &SpanList) -> io::Result<()> {
-    for channel in 0..spans.len() {
-        if let Some(span) = spans.get(channel) {
-            let least = span.least;
-            let greatest = span.greatest;
-            write!(out, ",{least},{greatest}")?;
-        }
+    for span in (0..spans.len()).filter_map(|channel| spans.get(channel)) {
+        let least = span.least;
+        let greatest = span.greatest;
+        write!(out, ",{least},{greatest}")?;
     }
     writeln!(out)
 }
@@ -113,10 +113,7 @@ fn call<R: Rack, W: Write>(
             let mut list = [255u8; 64];
             match rack.list(&lent.shape, number, &mut list) {
                 Ok(count) => write_list(out, &list, count),
-                Err(refusal) => {
-                    let number = refusal.number();
-                    writeln!(out, "refused,{number}")
-                }
+                Err(refusal) => writeln!(out, "refused,{refusal}"),
             }
         }
         "WIDEN" => {
@@ -147,7 +144,13 @@ fn recipe_text(heap: Global, line: &str) -> anyhow::Result<String> {
     Ok(text)
 }
 
-fn obey<W: Write>(heap: Global, out: &mut W, line: &str, lent: &mut Lent) -> anyhow::Result<()> {
+fn obey<W: Write>(
+    heap: Global,
+    out: &mut W,
+    line: &str,
+    called: &mut Called,
+    lent: &mut Lent,
+) -> anyhow::Result<()> {
     let head = line.split('\t').next().unwrap_or("");
     let word = head.split(',').next().unwrap_or("");
     let values = numbers(heap, head)?;
@@ -166,18 +169,18 @@ fn obey<W: Write>(heap: Global, out: &mut W, line: &str, lent: &mut Lent) -> any
         "AREA" => lent.area = values,
         "RECIPE" => {
             let text = recipe_text(heap, line)?;
-            lent.classic = false;
-            if lent.recipe.read(text.as_bytes()).is_err() {
+            let mut recipe = Recipe::new();
+            if recipe.read(text.as_bytes()).is_err() {
                 return Err(anyhow!("bad recipe in the script"));
             }
+            *called = Called::Recipe(recipe);
         }
-        "CLASSIC" => lent.classic = true,
+        "CLASSIC" => *called = Called::Classic,
         _ => {
             let number = size_at(values.as_slice(), 0);
-            if lent.classic {
-                call(&Bank { table: Classic }, out, word, number, lent)?;
-            } else {
-                call(&Bank { table: lent.recipe }, out, word, number, lent)?;
+            match *called {
+                Called::Recipe(recipe) => call(&Bank { table: recipe }, out, word, number, lent)?,
+                Called::Classic => call(&Bank { table: Classic }, out, word, number, lent)?,
             }
         }
     }
@@ -195,12 +198,11 @@ fn run(rt: &HostRuntime) -> anyhow::Result<()> {
         },
         spans: SpanList::new(),
         area: Vec::new(rt.alloc()),
-        recipe: Recipe::new(),
-        classic: false,
     };
+    let mut called = Called::Recipe(Recipe::new());
     let mut out = BufWriter::new(rt.alloc(), rt.stdout())?;
     for line in text.as_str().lines() {
-        obey(rt.alloc(), &mut out, line, &mut lent)?;
+        obey(rt.alloc(), &mut out, line, &mut called, &mut lent)?;
     }
     out.flush()?;
     Ok(())

@@ -3,7 +3,7 @@
 //     walkthrough SET RECIPE     the files of a recording and of a recipe
 #![tactic(auto)]
 
-use anyhow::anyhow;
+use anyhow::{Context, anyhow};
 use rack::rack::Rack;
 use rack::stages::Stages;
 use recipe::table::Recipe;
@@ -43,40 +43,36 @@ fn add_numbers(all: &mut Vec<i32>, fields: &str) -> anyhow::Result<()> {
 
 // Number k of the first line, counted from 0.
 fn number(head: &[i32], k: usize) -> anyhow::Result<i32> {
-    match head.get(k) {
-        Some(x) => Ok(*x),
-        None => Err(anyhow!(
-            "the first line of a set is SET,channels,samples,origin,least,greatest"
-        )),
-    }
+    head.get(k).copied().context(
+        "the first line of a set is SET,channels,samples,origin,least,greatest",
+    )
 }
 
 fn size(head: &[i32], k: usize) -> anyhow::Result<usize> {
     Ok(usize::try_from(number(head, k)?)?)
 }
 
+// The same span for each channel; where there is no channel, no span is made.
 fn one_span_each(least: i32, greatest: i32, channels: usize) -> Result<SpanList, Refusal> {
-    let mut spans = SpanList::new();
-    for _channel in 0..channels {
-        spans.push(Span::new(least, greatest)?)?;
+    if channels == 0 {
+        return Ok(SpanList::new());
     }
-    Ok(spans)
+    SpanList::repeat(Span::new(least, greatest)?, channels)
 }
 
-// A refusal as an error with its number.
-fn accepted<T: Drop>(answer: Result<T, Refusal>) -> anyhow::Result<T> {
-    match answer {
-        Ok(value) => Ok(value),
-        Err(refusal) => match refusal.number() {
-            1 => Err(anyhow!("refused 1: a number of the shape is outside its limits")),
-            2 => Err(anyhow!("refused 2: not one span for each channel")),
-            4 => Err(anyhow!("refused 4: the samples are not as many as the shape says")),
-            8 => Err(anyhow!("refused 8: a stage does not fit the set")),
-            9 => Err(anyhow!("refused 9: a stage makes the spans too wide")),
-            10 => Err(anyhow!("refused 10: a sample is outside its span")),
-            11 => Err(anyhow!("refused 11: no recording within the spans gives these samples")),
-            _ => Err(anyhow!("refused")),
-        },
+// What a refusal says of a recording.
+fn told(refusal: Refusal) -> anyhow::Error {
+    match refusal {
+        Refusal::BadShape => anyhow!("refused 1: a number of the shape is outside its limits"),
+        Refusal::SpanCount => anyhow!("refused 2: not one span for each channel"),
+        Refusal::AreaLength => anyhow!("refused 4: the samples are not as many as the shape says"),
+        Refusal::DoesNotFit => anyhow!("refused 8: a stage does not fit the set"),
+        Refusal::TooWide => anyhow!("refused 9: a stage makes the spans too wide"),
+        Refusal::OutsideSpan => anyhow!("refused 10: a sample is outside its span"),
+        Refusal::Foreign => anyhow!(
+            "refused 11: no recording within the spans gives these samples"
+        ),
+        _ => anyhow!("refused"),
     }
 }
 
@@ -97,7 +93,7 @@ fn read_set(heap: Global, text: &str) -> anyhow::Result<Recording> {
         samples: size(head, 1)?,
         origin: size(head, 2)?,
     };
-    let spans = accepted(one_span_each(number(head, 3)?, number(head, 4)?, shape.channels))?;
+    let spans = one_span_each(number(head, 3)?, number(head, 4)?, shape.channels).map_err(told)?;
     Ok(Recording {
         shape,
         spans,
@@ -130,65 +126,69 @@ fn show_channels(
     Ok(())
 }
 
-fn show_list<R: Rack>(
-    rt: &impl Print,
-    rack: &R,
-    shape: &Shape,
-    stage: usize,
-) -> anyhow::Result<()> {
-    let mut list = [0; 64];
-    let count = accepted(rack.list(shape, stage, &mut list))?;
-    print!(rt; "stage {stage} lists channels")?;
-    for channel in list.iter().take(count) {
-        print!(rt; " {channel}")?;
-    }
-    println!(rt; ", and gives")?;
-    Ok(())
+// A rack, and the shape of the set that is taken through its stages.
+#[derive(Drop)]
+struct Course<R> {
+    rack: R,
+    shape: Shape,
 }
 
-// Applies every stage.
-fn apply_all<R: Rack>(
-    rt: &HostRuntime,
-    rack: &R,
-    recording: &Recording,
-    area: &mut Vec<i32>,
-) -> anyhow::Result<Widths> {
-    let shape = &recording.shape;
-    let mut spans = recording.spans;
-    let mut before = Vec::new(rt.alloc());
-    for stage in 0..rack.count() {
-        show_list(rt, rack, shape, stage)?;
-        accepted(rack.apply(shape, stage, &spans, area.as_mut_slice()))?;
-        before.push(spans)?;
-        accepted(rack.spans(shape, stage, &mut spans))?;
-        show_channels(rt, shape, &spans, area.as_slice())?;
-    }
-    Ok(Widths {
-        before,
-        after: spans,
-    })
-}
-
-// Undoes every stage, the last first, with the spans before it.
-fn undo_all<R: Rack>(
-    rt: &impl Print,
-    rack: &R,
-    shape: &Shape,
-    before: &[SpanList],
-    area: &mut Vec<i32>,
-) -> anyhow::Result<bool> {
-    for (back, spans) in before.iter().rev().enumerate() {
-        let stage = before.len().saturating_sub(back.saturating_add(1));
-        if let Err(refusal) = rack.undo(shape, stage, spans, area.as_mut_slice()) {
-            let number = refusal.number();
-            println!(rt;
-                "stage {stage} is not undone: refused {number}, and the area is all zeros"
-            )?;
-            return Ok(false);
+impl<R: Rack> Course<R> {
+    fn show_list(&self, rt: &impl Print, stage: usize) -> anyhow::Result<()> {
+        let mut list = [0; 64];
+        let count = self.rack.list(&self.shape, stage, &mut list).map_err(told)?;
+        print!(rt; "stage {stage} lists channels")?;
+        for channel in list.iter().take(count) {
+            print!(rt; " {channel}")?;
         }
-        println!(rt; "stage {stage} is undone")?;
+        println!(rt; ", and gives")?;
+        Ok(())
     }
-    Ok(true)
+
+    // Applies every stage.
+    fn apply_all(
+        &self,
+        rt: &HostRuntime,
+        first: &SpanList,
+        area: &mut [i32],
+    ) -> anyhow::Result<Widths> {
+        let mut spans = *first;
+        let mut before = Vec::new(rt.alloc());
+        for stage in 0..self.rack.count() {
+            self.show_list(rt, stage)?;
+            self.rack
+                .apply(&self.shape, stage, &spans, area)
+                .map_err(told)?;
+            before.push(spans)?;
+            self.rack
+                .spans(&self.shape, stage, &mut spans)
+                .map_err(told)?;
+            show_channels(rt, &self.shape, &spans, area)?;
+        }
+        Ok(Widths {
+            before,
+            after: spans,
+        })
+    }
+
+    // Undoes every stage, the last first, with the spans before it.
+    fn undo_all(
+        &self,
+        rt: &impl Print,
+        before: &[SpanList],
+        area: &mut [i32],
+    ) -> anyhow::Result<bool> {
+        for (stage, spans) in before.iter().enumerate().rev() {
+            if let Err(refusal) = self.rack.undo(&self.shape, stage, spans, area) {
+                println!(rt;
+                    "stage {stage} is not undone: refused {refusal}, and the area is all zeros"
+                )?;
+                return Ok(false);
+            }
+            println!(rt; "stage {stage} is undone")?;
+        }
+        Ok(true)
+    }
 }
 
 // Damages an image at the first sample of its last channel, which becomes the greatest of its span.
@@ -201,17 +201,26 @@ fn damage(shape: &Shape, after: &SpanList, image: &mut [i32]) {
 }
 
 fn walk(rt: &HostRuntime, recording: &Recording, recipe: Recipe) -> anyhow::Result<()> {
-    let shape = &recording.shape;
-    let channels = shape.channels;
-    let samples = shape.samples;
-    let origin = shape.origin;
+    let Shape {
+        channels,
+        samples,
+        origin,
+    } = recording.shape;
     println!(rt; "recorded: {channels} channels of {samples} samples from place {origin} on")?;
-    show_channels(rt, shape, &recording.spans, recording.samples.as_slice())?;
-    let rack = Bank { table: recipe };
+    let course = Course {
+        rack: Bank { table: recipe },
+        shape: recording.shape,
+    };
+    show_channels(
+        rt,
+        &course.shape,
+        &recording.spans,
+        recording.samples.as_slice(),
+    )?;
     let mut area = recording.samples.clone()?;
-    let widths = apply_all(rt, &rack, recording, &mut area)?;
+    let widths = course.apply_all(rt, &recording.spans, area.as_mut_slice())?;
     let mut image = area.clone()?;
-    let whole = undo_all(rt, &rack, shape, widths.before.as_slice(), &mut area)?;
+    let whole = course.undo_all(rt, widths.before.as_slice(), area.as_mut_slice())?;
     if whole && area == recording.samples {
         let count = area.len();
         println!(rt; "all {count} samples came back")?;
@@ -221,8 +230,8 @@ fn walk(rt: &HostRuntime, recording: &Recording, recipe: Recipe) -> anyhow::Resu
     println!(rt;
         "now the first sample of the last channel is damaged: it becomes the greatest of its span"
     )?;
-    damage(shape, &widths.after, image.as_mut_slice());
-    if undo_all(rt, &rack, shape, widths.before.as_slice(), &mut image)? {
+    damage(&course.shape, &widths.after, image.as_mut_slice());
+    if course.undo_all(rt, widths.before.as_slice(), image.as_mut_slice())? {
         println!(rt; "the damaged image stands for another recording")?;
     }
     Ok(())
@@ -237,9 +246,9 @@ fn run(rt: &HostRuntime) -> anyhow::Result<()> {
     let recording = read_set(heap, fs::read_to_string(rt, set_path)?.as_str())?;
     let text = fs::read_to_string(rt, recipe_path)?;
     let mut recipe = Recipe::new();
-    if recipe.read(text.as_bytes()).is_err() {
-        return Err(anyhow!("the recipe is refused: the program report tells line and field"));
-    }
+    recipe.read(text.as_bytes()).map_err(|_| anyhow!(
+        "the recipe is refused: the program report tells line and field"
+    ))?;
     walk(rt, &recording, recipe)
 }
 
