@@ -6,27 +6,19 @@ use std::alloc::Global;
 use std::io;
 use std::io::{BufWriter, Read, Write};
 
-// The number that the digits before the first line feed write, and the place behind that line feed.
-fn heading(bytes: &[u8]) -> (usize, usize) {
-    let mut size: usize = 0;
-    for (at, b) in bytes.iter().enumerate() {
-        if *b == b'\n' {
-            return (size, at.saturating_add(1));
-        }
-        size = size
-            .saturating_mul(10)
-            .saturating_add(usize::from(b.saturating_sub(b'0')));
-    }
-    (size, bytes.len())
-}
-
 // The text that comes first, and what follows it.
 fn first_text(bytes: &[u8]) -> (&[u8], &[u8]) {
-    let (size, start) = heading(bytes);
-    let from = start.min(bytes.len());
-    let (_, rest) = bytes.split_at(from);
-    let to = size.min(rest.len());
-    rest.split_at(to)
+    let end = bytes
+        .iter()
+        .position(|b| *b == b'\n')
+        .unwrap_or(bytes.len());
+    let (digits, rest) = bytes.split_at(end);
+    let size = digits.iter().fold(0usize, |size, b| {
+        size.saturating_mul(10)
+            .saturating_add(usize::from(b.saturating_sub(b'0')))
+    });
+    let text = rest.get(1..).unwrap_or_default();
+    text.split_at(size.min(text.len()))
 }
 
 fn write_report<W: Write>(heap: Global, out: &mut W, text: &[u8]) -> io::Result<()> {
