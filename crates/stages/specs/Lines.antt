@@ -1,5 +1,7 @@
 -- The indices of a line, and what stands for an index outside it.
-use Rattle.std.specs.Prelude.{ℕ, zero, suc, ◌+◌, ◌-◌, ◌*◌, ◌/◌, ◌%◌, ◌^◌, ◌<◌, ◌≤◌, Bool, cond, ◌&&◌, ℤ, pos, negsuc, neg_ℤ, ◌-ℤ◌, nat_le, nat_lt, int_le, unsigned_abs}
+use Rattle.std.specs.Prelude.{◌≡◌, ℕ, zero, suc, ◌+◌, ◌-◌, ◌*◌, ◌/◌, ◌%◌, ◌^◌, ◌<◌, ◌≤◌, Bool, true, false, cond, ◌&&◌, ℤ, pos, negsuc, neg_ℤ, ◌-ℤ◌, ◌==◌, nat_le, nat_lt, int_le, unsigned_abs}
+use Rattle.stages.specs.declared.indexed.Indexed.{Indexed}
+use Rattle.stages.specs.declared.indexed.Indexed.TheVariants.{Many, LoneOdd, Still}
 use Rattle.stages.specs.declared.stage.Extension.{Extension}
 use Rattle.stages.specs.declared.stage.Extension.TheVariants.{Mirrored, Nearest}
 
@@ -11,6 +13,16 @@ first_index v p = (p + (2 ^ v - 1)) / 2 ^ v
 -- how many indices the line has
 abbrev pub index_count : ℕ → ℕ → ℕ → ℕ
 index_count v p n = (p + n - 1) / 2 ^ v + 1 - first_index v p
+
+-- the line has a single index, and that one odd
+abbrev pub lone_odd : ℕ → ℕ → ℕ → Bool
+lone_odd v p n = index_count v p n == 1 && first_index v p % 2 == 1
+
+-- what a lifting does to the line: its steps, a doubling, or nothing
+abbrev pub IndexedAs : ℕ → ℕ → ℕ → Indexed → Type 0
+IndexedAs v p n Many = nat_le 2 (index_count v p n) ≡ true
+IndexedAs v p n LoneOdd = (nat_le 2 (index_count v p n) ≡ false) × (lone_odd v p n ≡ true)
+IndexedAs v p n Still = (nat_le 2 (index_count v p n) ≡ false) × (lone_odd v p n ≡ false)
 
 -- so many indices, two or more, can be a line's
 abbrev pub is_line : ℕ → Bool

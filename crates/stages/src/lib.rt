@@ -1,9 +1,11 @@
 // The kinds of stage: lifting, the reversible colour transform, and dependency rows.
 #![tactic(auto)]
 
+mod counted;
 mod dep_spans;
 mod floor;
 mod gather;
+pub mod indexed;
 mod indices;
 mod lift_channel;
 mod lift_spans;
@@ -20,6 +22,7 @@ pub mod reach;
 mod reaching;
 mod rule;
 mod slots;
+mod sources;
 pub mod stage;
 pub mod table;
 pub mod widen;

@@ -5,8 +5,8 @@ ghost use Rattle.stages.specs.Made.{MadeSpan, MadeList};
 ghost use Rattle.stages.specs.Plain.{plain_steps, plain_lift};
 ghost use Rattle.stages.specs.Ranges.{at, all_fit};
 
+use crate::indexed::Indexed;
 use crate::line::Line;
-use crate::lines::{first_index, index_count};
 use crate::ranges::{join, raise, row_at, widened};
 use crate::rule::Rule;
 use crate::slots::walk;
@@ -25,31 +25,17 @@ fn two(a: Span, b: Span) -> SpanList
     list
 }
 
-// Whether a line has a single index, and that one odd.
-fn lone_odd(count: usize, first: usize) -> bool
-    ensures { result ≡ (count == 1 && first % 2 == 1) }
-{
-    count == 1 && first % 2 == 1
-}
-
 // The spans of the even and of the odd indices of a channel after a lifting along its samples.
 fn channel_ends(shape: &Shape, lift: &Lift, span: &Span) -> Option<SpanList>
     requires { (shape.now.origin ≤ 2 ^ 20) × (shape.now.samples ≤ 2 ^ 20) }
     ensures { MadeList result (all_fit (channel_made shape.now (plain_lift lift.now) (plain_steps lift.now) (bounds_of span.now))) (channel_ends shape.now (plain_lift lift.now) (plain_steps lift.now) (bounds_of span.now)) }
 {
-    let count = index_count(lift.level, shape.origin, shape.samples);
-    let wide = widened(span);
     let pair = two(*span, *span);
-    if count >= 2 {
-        return walk(&pair, &Line::Parities, lift);
+    match lift.indexed(shape.origin as u32, shape.samples as u32) {
+        Indexed::Many => walk(&pair, &Line::Parities, lift),
+        Indexed::LoneOdd => Some(two(raise(span, &widened(span))?, *span)),
+        Indexed::Still => Some(pair),
     }
-    if !lone_odd(count, first_index(lift.level, shape.origin)) {
-        return Some(pair);
-    }
-    let Some(twice) = raise(span, &wide) else {
-        return None;
-    };
-    Some(two(twice, *span))
 }
 
 // The span of a channel after a lifting along its samples.

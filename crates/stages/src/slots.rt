@@ -14,17 +14,6 @@ use crate::stage::{Lift, Parity, Step};
 use sets::span::Span;
 use sets::span_list::SpanList;
 
-// The index that tap k of a step reads for an index of its parity.
-fn source_index(parity: Parity, index: usize, offset: i32, k: usize) -> i64
-    requires { (index < 64) × (k < 64) }
-    ensures value { result ≡ source_index (parity_of parity) index offset k }
-    ensures low { neg_ℤ (pos (2 ^ 40)) ≤ℤ result }
-    ensures high { result ≤ℤ pos (2 ^ 40) }
-{
-    let from = 1 - parity.number();
-    2 * ((index / 2) as i64 + (offset as i64 + k as i64)) + from as i64
-}
-
 // The spans that the taps of a step read for one index.
 #[derive(Drop)]
 struct Sources {
@@ -43,7 +32,9 @@ impl Rule for Sources {
     ghost within = { λ s k. Usable s.line × (s.index < 64) × (k < 64) };
 
     fn row(&self, i: usize) -> Option<Span> {
-        let from = source_index(self.parity, self.index, self.step.offset, i);
+        let from = self
+            .step
+            .source_index(self.parity, self.index as u32, i as u32);
         Some(row_at(&self.slots, self.line.slot(from)))
     }
 }
