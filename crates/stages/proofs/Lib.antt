@@ -4,6 +4,7 @@ pub mod Sums
 pub mod Spans
 pub mod Mirrors
 pub mod Every
+pub mod Gathers
 pub mod Parts
 pub mod Plains
 pub mod Walks

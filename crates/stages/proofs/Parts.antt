@@ -7,6 +7,11 @@ use Rattle.sets.specs.declared.bounds.Bounds.{Bounds}
 use Rattle.sets.specs.Ordered.{no_bounds}
 use Rattle.stages.specs.Ranges.{at}
 
+-- the first of what is left of a list that is seen through f, by one of an equal list
+pub rest-more : {X Y : Type 0} (f : X → Y) (xs ys : List X) (k : ℕ) (x : X) → ys ≡ xs → k < length ys → x ≡ get_or ys k x → drop k (map f xs) ≡ f x ∷ drop (k + 1) (map f xs)
+rest-more f xs ys k x e h is =
+    rw (sym e) (drop_more (map f ys) k (f x) (simp length-map h) ∙ ap (λ y. y ∷ drop (k + 1) (map f ys)) (get_or-map f ys k x (f x) h ∙ ap f (sym is)))
+
 -- one of a front that is seen through f, and the first of what is left of it
 module _ {X Y : Type 0} (f : X → Y) (xs : List X) (n k : ℕ) (d : X) (h : k < n) (l : n ≤ length xs) where
   pub front_at : (e : Y) → get_or (map f (take n xs)) k e ≡ f (get_or xs k d)

@@ -1,7 +1,7 @@
 -- What lifting does to spans.
 -- A line's spans stand in slots. Along the channels each index of the line has a slot of its own;
 -- along the samples of a channel there are two, one for the even indices and one for the odd.
-use Rattle.std.specs.Prelude.{ℕ, ◌+◌, ◌-◌, ◌*◌, ◌/◌, ◌%◌, ◌^◌, Bool, cond, ◌&&◌, List, [], ◌∷◌, ◌++◌, map, length, ℤ, pos, ◌+ℤ◌, ◌*ℤ◌, ◌==◌, nat_le, nat_lt, unsigned_abs}
+use Rattle.std.specs.Prelude.{ℕ, ◌+◌, ◌-◌, ◌*◌, ◌/◌, ◌%◌, ◌^◌, Bool, true, cond, ◌&&◌, List, [], ◌∷◌, ◌++◌, map, length, ℤ, pos, ◌+ℤ◌, ◌*ℤ◌, ◌==◌, nat_le, nat_lt, unsigned_abs}
 use Rattle.std.specs.List.{range_with_len, flat_map}
 use Rattle.sets.specs.declared.bounds.Bounds.{Bounds}
 use Rattle.sets.specs.declared.shape.Shape.{Shape}
@@ -12,7 +12,7 @@ use Rattle.stages.specs.declared.stage.Parity.TheVariants.{Even, Odd}
 use Rattle.stages.specs.Lines.{first_index, index_count, extended}
 use Rattle.stages.specs.Plain.{PlainLift, PlainStep}
 use Rattle.stages.specs.Quotients.{reach_of}
-use Rattle.stages.specs.Ranges.{raised, hull, doubled, at}
+use Rattle.stages.specs.Ranges.{raised, hull, doubled, at, all_fit}
 
 abbrev pub parity_of : Parity → ℕ
 parity_of Even = 0
@@ -93,8 +93,22 @@ line_made l ss bs = cond (nat_le 2 (line_length l)) (walked (extended l.extensio
 abbrev pub time_at : Shape → PlainLift → List PlainStep → List Bounds → ℕ → Bounds
 time_at f l ss bs c = cond (lists_channel l c) (channel_after f l ss (at bs c)) (at bs c)
 
+abbrev pub time_fits : Shape → PlainLift → List PlainStep → List Bounds → ℕ → Bool
+time_fits f l ss bs c = cond (lists_channel l c) (all_fit (channel_made f l ss (at bs c))) true
+
 abbrev pub channel_at : PlainLift → List Bounds → List Bounds → ℕ → Bounds
 channel_at l es bs c = cond (on_line l c) (hull (at bs c) (at es (index_of l c))) (at bs c)
+
+-- the spans of all channels after a lifting along the samples, and every bound made on the way
+abbrev pub samples_after : Shape → PlainLift → List PlainStep → List Bounds → List Bounds
+samples_after f l ss bs = map (time_at f l ss bs) (range_with_len 0 (length bs))
+
+abbrev pub samples_made : Shape → PlainLift → List PlainStep → List Bounds → List Bounds
+samples_made f l ss bs = flat_map (λ c. channel_made f l ss (at bs c)) (range_with_len l.first l.count)
+
+-- the spans after one along the channels, which makes the bounds of line_made
+abbrev pub channels_after : PlainLift → List PlainStep → List Bounds → List Bounds
+channels_after l ss bs = map (channel_at l (line_ends l ss bs) bs) (range_with_len 0 (length bs))
 
 -- the first along the samples, and the second along the channels
 abbrev pub by_axis : Axis → List Bounds → List Bounds → List Bounds
@@ -103,7 +117,7 @@ by_axis Channel xs ys = ys
 
 -- the spans of all channels after a lifting, and every bound made on the way
 abbrev pub lift_after : Shape → PlainLift → List PlainStep → List Bounds → List Bounds
-lift_after f l ss bs = by_axis l.axis (map (time_at f l ss bs) (range_with_len 0 (length bs))) (map (channel_at l (line_ends l ss bs) bs) (range_with_len 0 (length bs)))
+lift_after f l ss bs = by_axis l.axis (samples_after f l ss bs) (channels_after l ss bs)
 
 abbrev pub lift_made : Shape → PlainLift → List PlainStep → List Bounds → List Bounds
-lift_made f l ss bs = by_axis l.axis (flat_map (λ c. channel_made f l ss (at bs c)) (range_with_len l.first l.count)) (line_made l ss bs)
+lift_made f l ss bs = by_axis l.axis (samples_made f l ss bs) (line_made l ss bs)

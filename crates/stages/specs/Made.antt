@@ -1,10 +1,11 @@
 -- What is made, or not made since a bound is beyond signed 32 bits.
-use Rattle.std.specs.Prelude.{◌≡◌, ℕ, Bool, true, false, ◌&&◌, List, [], ◌∷◌, ℤ, Option, MatchOption}
+use Rattle.std.specs.Prelude.{◌≡◌, ℕ, ◌<◌, Bool, true, false, ◌&&◌, List, [], ◌∷◌, length, ℤ, Some, None, Option, MatchOption}
 use Rattle.sets.specs.declared.bounds.Bounds.{Bounds}
 use Rattle.sets.specs.declared.span.Span.{Span}
 use Rattle.sets.specs.declared.span_list.SpanList.{SpanList}
 use Rattle.sets.specs.Sets.{bounds_of, rows_of}
 use Rattle.stages.specs.declared.reach.Reach.{Reach}
+use Rattle.stages.specs.Ranges.{at}
 
 abbrev pub between : ℤ → ℤ → Bounds
 between a b = record { least = a; greatest = b }
@@ -23,3 +24,12 @@ MadeList r test bs = MatchOption r (test ≡ false) (λ l. (test ≡ true) × (r
 abbrev pub every : (ℕ → Bool) → List ℕ → Bool
 every test [] = true
 every test (i ∷ is) = test i && every test is
+
+-- a list of n spans, each of which a call at its number returned
+pub record Listed (returned : ℕ → Span → Type 0) (n : ℕ) (l : SpanList) : Type 0 where
+  pub count : length (rows_of l) ≡ n
+  pub rows : (i : ℕ) → i < n → (s : Span) × returned i s × (at (rows_of l) i ≡ bounds_of s)
+
+-- the same, and no list where a call returned none
+pub record Gathered (returned : ℕ → Option Span → Type 0) (n : ℕ) (r : Option SpanList) : Type 0 where
+  pub outcome : MatchOption r ((i : ℕ) × (i < n) × returned i None) (Listed (λ i s. returned i (Some s)) n)

@@ -20,7 +20,6 @@ mod ranges;
 mod rct_spans;
 pub mod reach;
 mod reaching;
-mod rule;
 mod slots;
 mod sources;
 pub mod stage;

@@ -1,39 +1,17 @@
 ghost use Rattle.std.specs.Prelude.{◌≡◌, ◌+◌, ◌*◌, ◌^◌, ◌<◌, ◌≤◌, true};
-ghost use Rattle.sets.specs.Sets.{rows_of};
-ghost use Rattle.stages.specs.Lifting.{on_line, index_of, line_length, line_ends, line_made, channel_at};
+ghost use Rattle.sets.specs.Sets.{bounds_of, rows_of};
+ghost use Rattle.stages.specs.Lifting.{on_line, index_of, line_length, line_spans, line_ends, line_made, channel_at, channels_after};
 ghost use Rattle.stages.specs.Made.{MadeList};
 ghost use Rattle.stages.specs.Plain.{plain_steps, plain_lift};
-ghost use Rattle.stages.specs.Ranges.{at, all_fit};
+ghost use Rattle.stages.specs.Ranges.{all_fit};
 
 use crate::gather::listed;
 use crate::line::Line;
 use crate::lines::index_count;
 use crate::ranges::{join, row_at};
-use crate::rule::Rule;
-use crate::slots::walk;
 use crate::stage::Lift;
 use sets::span::Span;
 use sets::span_list::SpanList;
-
-// The spans of the line's indices.
-#[derive(Drop)]
-struct OnLine {
-    lift: Lift,
-    spans: SpanList,
-}
-
-impl Rule for OnLine {
-    ghost after = { λ s i. at (rows_of s.spans) (s.lift.first + i * 2 ^ s.lift.level) };
-
-    ghost passes = { λ s i. true };
-
-    ghost within = { λ s i. i < 64 };
-
-    fn row(&self, i: usize) -> Option<Span> {
-        let channel = self.lift.first + i * (1 << self.lift.level);
-        Some(row_at(&self.spans, channel))
-    }
-}
 
 // How many indices the line of a lifting along the channels has.
 fn line_length(lift: &Lift) -> usize
@@ -43,16 +21,22 @@ fn line_length(lift: &Lift) -> usize
     index_count(lift.level, 0, lift.count)
 }
 
+// The spans of the line's indices.
+fn line_spans(lift: &Lift, spans: &SpanList) -> SpanList
+    ensures { rows_of result ≡ line_spans (plain_lift lift.now) (rows_of spans.now) }
+{
+    listed(
+        line_length(lift),
+        |i| row_at(spans, lift.first + i * (1 << lift.level)),
+    )
+}
+
 // The spans of the line's indices after a lifting along the channels.
-pub(crate) fn line_ends(lift: &Lift, spans: &SpanList) -> Option<SpanList>
+fn line_ends(lift: &Lift, spans: &SpanList) -> Option<SpanList>
     ensures { MadeList result (all_fit (line_made (plain_lift lift.now) (plain_steps lift.now) (rows_of spans.now))) (line_ends (plain_lift lift.now) (plain_steps lift.now) (rows_of spans.now)) }
 {
     let count = line_length(lift);
-    let rule = OnLine {
-        lift: *lift,
-        spans: *spans,
-    };
-    let along = listed(&rule, 0, count);
+    let along = line_spans(lift, spans);
     if count < 2 {
         return Some(along);
     }
@@ -60,7 +44,7 @@ pub(crate) fn line_ends(lift: &Lift, spans: &SpanList) -> Option<SpanList>
         extension: lift.extension,
         count,
     };
-    walk(&along, &line, lift)
+    line.walk(&along, lift)
 }
 
 impl Lift {
@@ -78,27 +62,26 @@ impl Lift {
     }
 }
 
-// The spans after a lifting along the channels.
-#[derive(Drop)]
-pub(crate) struct AlongChannels {
-    pub(crate) lift: Lift,
-    pub(crate) spans: SpanList,
-    pub(crate) ends: SpanList,
+// The span of a channel after a lifting along the channels whose line has ended so.
+fn span_after(lift: &Lift, spans: &SpanList, ends: &SpanList, channel: usize) -> Span
+    requires { channel < 64 }
+    ensures { bounds_of result ≡ channel_at (plain_lift lift.now) (rows_of ends.now) (rows_of spans.now) channel }
+{
+    let span = row_at(spans, channel);
+    if lift.on_line(channel) {
+        join(&span, &row_at(ends, lift.index_of(channel)))
+    } else {
+        span
+    }
 }
 
-impl Rule for AlongChannels {
-    ghost after = { λ s c. channel_at (plain_lift s.lift) (rows_of s.ends) (rows_of s.spans) c };
-
-    ghost passes = { λ s c. true };
-
-    ghost within = { λ s c. c < 64 };
-
-    fn row(&self, i: usize) -> Option<Span> {
-        let span = row_at(&self.spans, i);
-        if !self.lift.on_line(i) {
-            return Some(span);
-        }
-        let end = row_at(&self.ends, self.lift.index_of(i));
-        Some(join(&span, &end))
-    }
+// The spans after a lifting along the channels.
+pub(crate) fn along_channels(lift: &Lift, spans: &SpanList) -> Option<SpanList>
+    ensures { MadeList result (all_fit (line_made (plain_lift lift.now) (plain_steps lift.now) (rows_of spans.now))) (channels_after (plain_lift lift.now) (plain_steps lift.now) (rows_of spans.now)) }
+{
+    let ends = line_ends(lift, spans)?;
+    Some(listed(
+        spans.len(),
+        |channel| span_after(lift, spans, &ends, channel),
+    ))
 }

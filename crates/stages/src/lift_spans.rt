@@ -5,9 +5,8 @@ ghost use Rattle.stages.specs.Made.{MadeList};
 ghost use Rattle.stages.specs.Plain.{plain_steps, plain_lift};
 ghost use Rattle.stages.specs.Ranges.{all_fit};
 
-use crate::gather::{gathered, listed};
-use crate::lift_channel::{AlongChannels, line_ends};
-use crate::lift_time::AlongTime;
+use crate::lift_channel::along_channels;
+use crate::lift_time::along_samples;
 use crate::stage::{Axis, Lift};
 use sets::shape::Shape;
 use sets::span_list::SpanList;
@@ -17,24 +16,7 @@ pub(crate) fn lift_spans(shape: &Shape, lift: &Lift, spans: &SpanList) -> Option
     ensures { MadeList result (all_fit (lift_made shape.now (plain_lift lift.now) (plain_steps lift.now) (rows_of spans.now))) (lift_after shape.now (plain_lift lift.now) (plain_steps lift.now) (rows_of spans.now)) }
 {
     match lift.axis {
-        Axis::Time => {
-            let rule = AlongTime {
-                shape: *shape,
-                lift: *lift,
-                spans: *spans,
-            };
-            gathered(&rule, 0, spans.len())
-        }
-        Axis::Channel => {
-            let Some(ends) = line_ends(lift, spans) else {
-                return None;
-            };
-            let rule = AlongChannels {
-                lift: *lift,
-                spans: *spans,
-                ends,
-            };
-            Some(listed(&rule, 0, spans.len()))
-        }
+        Axis::Time => along_samples(shape, lift, spans),
+        Axis::Channel => along_channels(lift, spans),
     }
 }

@@ -1,15 +1,14 @@
-ghost use Rattle.std.specs.Prelude.{◌≡◌, ◌%◌, ◌^◌, ◌≤◌, true, ◌&&◌, [], ◌∷◌, if◌then◌else◌, ◌==◌};
+ghost use Rattle.std.specs.Prelude.{◌≡◌, ◌+◌, ◌^◌, ◌≤◌, [], ◌∷◌, length};
 ghost use Rattle.sets.specs.Sets.{bounds_of, rows_of};
-ghost use Rattle.stages.specs.Lifting.{lists_channel, channel_ends, channel_after, channel_made, time_at};
+ghost use Rattle.stages.specs.Lifting.{lists_channel, channel_ends, channel_after, channel_made, time_fits, time_at, samples_made, samples_after};
 ghost use Rattle.stages.specs.Made.{MadeSpan, MadeList};
 ghost use Rattle.stages.specs.Plain.{plain_steps, plain_lift};
-ghost use Rattle.stages.specs.Ranges.{at, all_fit};
+ghost use Rattle.stages.specs.Ranges.{all_fit};
 
+use crate::gather::gathered;
 use crate::indexed::Indexed;
 use crate::line::Line;
 use crate::ranges::{join, raise, row_at, widened};
-use crate::rule::Rule;
-use crate::slots::walk;
 use crate::stage::Lift;
 use sets::shape::Shape;
 use sets::span::Span;
@@ -32,7 +31,7 @@ fn channel_ends(shape: &Shape, lift: &Lift, span: &Span) -> Option<SpanList>
 {
     let pair = two(*span, *span);
     match lift.indexed(shape.origin as u32, shape.samples as u32) {
-        Indexed::Many => walk(&pair, &Line::Parities, lift),
+        Indexed::Many => Line::Parities.walk(&pair, lift),
         Indexed::LoneOdd => Some(two(raise(span, &widened(span))?, *span)),
         Indexed::Still => Some(pair),
     }
@@ -43,9 +42,7 @@ fn channel_after(shape: &Shape, lift: &Lift, span: &Span) -> Option<Span>
     requires { (shape.now.origin ≤ 2 ^ 20) × (shape.now.samples ≤ 2 ^ 20) }
     ensures { MadeSpan result (all_fit (channel_made shape.now (plain_lift lift.now) (plain_steps lift.now) (bounds_of span.now))) (channel_after shape.now (plain_lift lift.now) (plain_steps lift.now) (bounds_of span.now)) }
 {
-    let Some(ends) = channel_ends(shape, lift, span) else {
-        return None;
-    };
+    let ends = channel_ends(shape, lift, span)?;
     let even = row_at(&ends, 0);
     let odd = row_at(&ends, 1);
     let both = join(&even, &odd);
@@ -61,26 +58,26 @@ impl Lift {
     }
 }
 
-// The spans after a lifting along the samples of each channel that it lists.
-#[derive(Drop)]
-pub(crate) struct AlongTime {
-    pub(crate) shape: Shape,
-    pub(crate) lift: Lift,
-    pub(crate) spans: SpanList,
+// The span of any channel after a lifting along the samples of those that it lists.
+fn span_after(shape: &Shape, lift: &Lift, spans: &SpanList, channel: usize) -> Option<Span>
+    requires { (shape.now.origin ≤ 2 ^ 20) × (shape.now.samples ≤ 2 ^ 20) }
+    ensures { MadeSpan result (time_fits shape.now (plain_lift lift.now) (plain_steps lift.now) (rows_of spans.now) channel) (time_at shape.now (plain_lift lift.now) (plain_steps lift.now) (rows_of spans.now) channel) }
+{
+    let span = row_at(spans, channel);
+    if lift.lists(channel) {
+        channel_after(shape, lift, &span)
+    } else {
+        Some(span)
+    }
 }
 
-impl Rule for AlongTime {
-    ghost after = { λ s c. time_at s.shape (plain_lift s.lift) (plain_steps s.lift) (rows_of s.spans) c };
-
-    ghost passes = { λ s c. (if lists_channel (plain_lift s.lift) c then all_fit (channel_made s.shape (plain_lift s.lift) (plain_steps s.lift) (at (rows_of s.spans) c)) else true) };
-
-    ghost within = { λ s c. (s.shape.origin ≤ 2 ^ 20) × (s.shape.samples ≤ 2 ^ 20) };
-
-    fn row(&self, i: usize) -> Option<Span> {
-        let span = row_at(&self.spans, i);
-        if !self.lift.lists(i) {
-            return Some(span);
-        }
-        channel_after(&self.shape, &self.lift, &span)
-    }
+// The spans after a lifting along the samples.
+pub(crate) fn along_samples(shape: &Shape, lift: &Lift, spans: &SpanList) -> Option<SpanList>
+    requires { (shape.now.origin ≤ 2 ^ 20) × ((shape.now.samples ≤ 2 ^ 20) × (lift.now.first + lift.now.count ≤ length (rows_of spans.now))) }
+    ensures { MadeList result (all_fit (samples_made shape.now (plain_lift lift.now) (plain_steps lift.now) (rows_of spans.now))) (samples_after shape.now (plain_lift lift.now) (plain_steps lift.now) (rows_of spans.now)) }
+{
+    gathered(
+        spans.len(),
+        |channel| span_after(shape, lift, spans, channel),
+    )
 }

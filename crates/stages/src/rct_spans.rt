@@ -1,4 +1,5 @@
-ghost use Rattle.std.specs.Prelude.{◌≡◌, ◌<◌, true, pos, ◌+ℤ◌, ◌*ℤ◌};
+ghost use Rattle.std.specs.Prelude.{◌≡◌, ◌<◌, map, length, pos, ◌+ℤ◌, ◌*ℤ◌};
+ghost use Rattle.std.specs.List.{range_with_len};
 ghost use Rattle.sets.specs.Sets.{bounds_of, rows_of};
 ghost use Rattle.stages.specs.Channels.{luma, coloured, rct_after, rct_made};
 ghost use Rattle.stages.specs.Floors.{floor_over};
@@ -8,7 +9,6 @@ ghost use Rattle.stages.specs.Ranges.{fits, all_fit};
 use crate::floor::shifted;
 use crate::gather::listed;
 use crate::ranges::{lower, narrowed, row_at, widened};
-use crate::rule::Rule;
 use crate::stage::Rct;
 use sets::span::Span;
 use sets::span_list::SpanList;
@@ -30,34 +30,31 @@ fn luma_of(a: &Span, b: &Span, c: &Span) -> Option<Span>
     narrowed(least, greatest)
 }
 
-// The spans with three new ones in place from `first` on.
-#[derive(Drop)]
-struct Coloured {
-    spans: SpanList,
-    first: usize,
-    y0: Span,
-    y1: Span,
-    y2: Span,
+// The span of a channel, where three new ones stand from `first` on.
+fn coloured(spans: &SpanList, first: usize, y0: Span, y1: Span, y2: Span, channel: usize) -> Span
+    requires { first < 64 }
+    ensures { bounds_of result ≡ coloured first (bounds_of y0) (bounds_of y1) (bounds_of y2) (rows_of spans.now) channel }
+{
+    if channel == first {
+        y0
+    } else if channel == first + 1 {
+        y1
+    } else if channel == first + 2 {
+        y2
+    } else {
+        row_at(spans, channel)
+    }
 }
 
-impl Rule for Coloured {
-    ghost after = { λ s c. coloured s.first (bounds_of s.y0) (bounds_of s.y1) (bounds_of s.y2) (rows_of s.spans) c };
-
-    ghost passes = { λ s c. true };
-
-    ghost within = { λ s c. (c < 64) × (s.first < 64) };
-
-    fn row(&self, i: usize) -> Option<Span> {
-        if i == self.first {
-            Some(self.y0)
-        } else if i == self.first + 1 {
-            Some(self.y1)
-        } else if i == self.first + 2 {
-            Some(self.y2)
-        } else {
-            Some(row_at(&self.spans, i))
-        }
-    }
+// The spans with the three new ones in place.
+fn recoloured(spans: &SpanList, first: usize, y0: Span, y1: Span, y2: Span) -> SpanList
+    requires { first < 64 }
+    ensures { rows_of result ≡ map (coloured first (bounds_of y0) (bounds_of y1) (bounds_of y2) (rows_of spans.now)) (range_with_len 0 (length (rows_of spans.now))) }
+{
+    listed(
+        spans.len(),
+        |channel| coloured(spans, first, y0, y1, y2, channel),
+    )
 }
 
 pub(crate) fn rct_spans(rct: &Rct, spans: &SpanList) -> Option<SpanList>
@@ -66,22 +63,8 @@ pub(crate) fn rct_spans(rct: &Rct, spans: &SpanList) -> Option<SpanList>
     let i0 = row_at(spans, rct.first);
     let i1 = row_at(spans, rct.first + 1);
     let i2 = row_at(spans, rct.first + 2);
-    let Some(y0) = luma_of(&i0, &i1, &i2) else {
-        return None;
-    };
-    let by = widened(&i1);
-    let Some(y1) = lower(&i2, &by) else {
-        return None;
-    };
-    let Some(y2) = lower(&i0, &by) else {
-        return None;
-    };
-    let rule = Coloured {
-        spans: *spans,
-        first: rct.first,
-        y0,
-        y1,
-        y2,
-    };
-    Some(listed(&rule, 0, spans.len()))
+    let y0 = luma_of(&i0, &i1, &i2)?;
+    let y1 = lower(&i2, &widened(&i1))?;
+    let y2 = lower(&i0, &widened(&i1))?;
+    Some(recoloured(spans, rct.first, y0, y1, y2))
 }
