@@ -1,21 +1,12 @@
--- Why the rule on spans is refused, cause by cause.
-use Rattle.std.proofs.Common.{◌≡◌, ℕ, Bool, true, false, cond, eqb, List, length, Some, None, Ok, Err, Option, Result, refl, ◌∙◌, arith}
+-- Why the rule on spans is refused.
+use Rattle.std.proofs.Common.{◌≡◌, ℕ, Bool, true, false, cond, List, None, Some, Ok, Err, Option, Result, refl, arith}
+use Rattle.std.specs.Option.{ok_or}
 use Rattle.sets.specs.declared.bounds.Bounds.{Bounds}
 use Rattle.sets.specs.declared.refusal.Refusal.{Refusal}
-use Rattle.sets.specs.declared.refusal.Refusal.TheVariants.{BadShape, SpanCount, DoesNotFit, TooWide}
-use Rattle.sets.specs.declared.shape.Shape.{Shape}
-use Rattle.sets.specs.Sets.{in_limits}
-use Rattle.stages.specs.Plain.{Plain}
-use Rattle.stages.specs.Ranges.{all_fit}
-use Rattle.stages.specs.Stages.{fits_in, bounds_made, unless, spans_refused}
-
-unless-true : (t : Bool) (e : Refusal) (rest : Option Refusal) → t ≡ true → unless t e rest ≡ rest
-unless-true true e rest h = refl
-unless-true false e rest h = let z : ◌≡◌ {A = ℕ} 0 1 = cc in absurd (omega arith)
-
-unless-false : (t : Bool) (e : Refusal) (rest : Option Refusal) → t ≡ false → unless t e rest ≡ Some e
-unless-false true e rest h = let z : ◌≡◌ {A = ℕ} 0 1 = cc in absurd (omega arith)
-unless-false false e rest h = refl
+use Rattle.sets.specs.declared.refusal.Refusal.TheVariants.{BadShape, TooWide}
+use Rattle.sets.specs.declared.span_list.SpanList.{SpanList}
+use Rattle.stages.specs.Made.{MadeList}
+use Rattle.stages.specs.Stages.{unless, Ruled}
 
 -- what the check of a shape tells of its limits
 pub limits_kept : (t : Bool) → Ok tt ≡ cond {A = Result Unit Refusal} t (Ok tt) (Err BadShape) → t ≡ true
@@ -26,26 +17,7 @@ pub limits_left : (t : Bool) (e : Refusal) → Err e ≡ cond {A = Result Unit R
 limits_left true e h = let z : ◌≡◌ {A = ℕ} 0 1 = cc in absurd (omega arith)
 limits_left false e h = (refl, cc)
 
-module _ (f : Shape) (s : Plain) (bs : List Bounds) where
-  pub refused_shape : in_limits f ≡ false → spans_refused f s bs ≡ Some BadShape
-  unfolding spans_refused
-  refused_shape a = unless-false _ _ _ a
-
-  module _ (a : in_limits f ≡ true) where
-    pub refused_count : eqb (length bs) f.channels ≡ false → spans_refused f s bs ≡ Some SpanCount
-    unfolding spans_refused
-    refused_count b = unless-true _ _ _ a ∙ unless-false _ _ _ b
-
-    module _ (b : eqb (length bs) f.channels ≡ true) where
-      pub refused_fit : fits_in s f.channels ≡ false → spans_refused f s bs ≡ Some DoesNotFit
-      unfolding spans_refused
-      refused_fit d = unless-true _ _ _ a ∙ unless-true _ _ _ b ∙ unless-false _ _ _ d
-
-      module _ (d : fits_in s f.channels ≡ true) where
-        pub refused_width : all_fit (bounds_made f s bs) ≡ false → spans_refused f s bs ≡ Some TooWide
-        unfolding spans_refused
-        refused_width e = unless-true _ _ _ a ∙ unless-true _ _ _ b ∙ unless-true _ _ _ d ∙ unless-false _ _ _ e
-
-        pub refused_not : all_fit (bounds_made f s bs) ≡ true → spans_refused f s bs ≡ None
-        unfolding spans_refused
-        refused_not e = unless-true _ _ _ a ∙ unless-true _ _ _ b ∙ unless-true _ _ _ d ∙ unless-true _ _ _ e
+-- after all other tests
+pub too-wide : (o : Option SpanList) (t : Bool) (bs : List Bounds) → MadeList o t bs → Ruled (ok_or o TooWide) (unless t TooWide None) bs
+too-wide None t bs h = rw h refl
+too-wide (Some l) t bs h = (rw h.0 refl, h.1)

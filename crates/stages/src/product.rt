@@ -4,21 +4,13 @@ ghost use Rattle.std.specs.Int.{int_max, int_min};
 use crate::reach::Reach;
 use sets::span::Span;
 
-fn times(a: i16, b: i32) -> i64
-    ensures value { result ≡ a *ℤ b }
-    ensures low { neg_ℤ (pos (2 ^ 46)) ≤ℤ result }
-    ensures high { result ≤ℤ pos (2 ^ 46) }
-{
-    a as i64 * b as i64
-}
-
 // A tap times a sample.
 pub fn product(a: i16, b: i32) -> i64
     ensures value { result ≡ a *ℤ b }
     ensures low { neg_ℤ (pos (2 ^ 46)) ≤ℤ result }
     ensures high { result ≤ℤ pos (2 ^ 46) }
 {
-    times(a, b)
+    a as i64 * b as i64
 }
 
 // The least and the greatest of a tap times a sample of the span.

@@ -12,16 +12,10 @@ pub(crate) fn narrowed(least: i64, greatest: i64) -> Option<Span>
     requires { least ≤ℤ greatest }
     ensures { MadeSpan result (fits (between least greatest)) (between least greatest) }
 {
-    if least < -2147483648 {
-        None
-    } else if greatest > 2147483647 {
-        None
-    } else {
-        Some(Span {
-            least: least as i32,
-            greatest: greatest as i32,
-        })
-    }
+    Some(Span {
+        least: i32::try_from(least).ok()?,
+        greatest: i32::try_from(greatest).ok()?,
+    })
 }
 
 pub(crate) fn raise(span: &Span, by: &Reach) -> Option<Span>
@@ -68,11 +62,8 @@ pub(crate) fn row_at(list: &SpanList, row: usize) -> Span
     ensures value { bounds_of result ≡ at (rows_of list.now) row }
     ensures fitting { fits (at (rows_of list.now) row) ≡ true }
 {
-    let Some(span) = list.get(row) else {
-        return Span {
-            least: 0,
-            greatest: 0,
-        };
-    };
-    span
+    list.get(row).unwrap_or(Span {
+        least: 0,
+        greatest: 0,
+    })
 }

@@ -19,9 +19,8 @@ impl Quotient {
     {
         let mut least = self.residue as i64;
         let mut greatest = self.residue as i64;
-        for k in 0..self.tap_count {
-            let span = row_at(sources, k);
-            let part = weighed(self.taps[k], &span);
+        for (k, tap) in self.taps().iter().enumerate() {
+            let part = weighed(*tap, &row_at(sources, k));
             least += part.least;
             greatest += part.greatest;
         }

@@ -47,20 +47,14 @@ impl Stage {
     fn after(&self, shape: &Shape, spans: &SpanList) -> Result<SpanList, Refusal>
         ensures { Ruled result (spans_refused shape.now (plain self.now) (rows_of spans.now)) (spans_after shape.now (plain self.now) (rows_of spans.now)) }
     {
-        match shape.check() {
-            Ok(()) => {}
-            Err(refusal) => return Err(refusal),
-        }
+        shape.check()?;
         if spans.len() != shape.channels {
             return Err(Refusal::SpanCount);
         }
         if !self.fits_in(shape.channels) {
             return Err(Refusal::DoesNotFit);
         }
-        let Some(after) = self.widened(shape, spans) else {
-            return Err(Refusal::TooWide);
-        };
-        Ok(after)
+        self.widened(shape, spans).ok_or(Refusal::TooWide)
     }
 
     // Replaces the spans by those after the stage.
@@ -69,12 +63,7 @@ impl Stage {
         ensures answer { result ≡ answered (spans_refused shape.now (plain self.now) (rows_of spans.old)) }
         ensures after { rows_of spans.new ≡ spans_then shape.now (plain self.now) (rows_of spans.old) }
     {
-        match self.after(shape, spans) {
-            Ok(after) => {
-                *spans = after;
-                Ok(())
-            }
-            Err(refusal) => Err(refusal),
-        }
+        *spans = self.after(shape, spans)?;
+        Ok(())
     }
 }

@@ -1,5 +1,5 @@
 use Rattle.stages.proofs.Products.{product_small, product_back}
-use Rattle.stages.proofs.product.times.Goals as goal
+use Rattle.stages.proofs.product.product.Goals as goal
 
 pub returns : goal.returns
 returns c =
