@@ -62,16 +62,10 @@ fn lines_of(heap: Global, text: &[u8]) -> Result<Vec<Line>, AllocError>
     Ok(lines)
 }
 
-// Does nothing: its promise is what the lines of a report say.
-fn reports_tell_all_stages()
-    ensures { ReportLaws }
-{}
-
 // The report of a text, line by line.
 pub fn report(heap: Global, text: &[u8]) -> Result<Vec<Line>, AllocError>
     ensures lines { IfOk result (λ v. v.items ≡ report_lines text.now) }
     ensures law { ReportLaws }
 {
-    reports_tell_all_stages();
     lines_of(heap, text)
 }
