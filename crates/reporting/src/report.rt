@@ -14,6 +14,7 @@ use std::alloc::{AllocError, Global};
 fn add_channels(lines: &mut Vec<Line>, stage: usize, spans: &SpanList) -> Result<(), AllocError>
     ensures { is_ok result ≡ true → lines.new.items ≡ lines.old.items ++ channel_lines stage 0 (rows_of spans.now) }
 {
+    // A list hands out its rows one by one, as spans.
     for channel in 0..spans.len() {
         let Some(span) = spans.get(channel) else {
             unreachable()

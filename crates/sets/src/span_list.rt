@@ -5,6 +5,8 @@ use crate::bounds::Bounds;
 
 // A list of at most 64 spans, one for each channel. Past `len` stands nothing of meaning.
 // An array and its length, and no vector: lists are copied freely, and nothing here may run out of memory.
+// Ghost fields and no model: what they say of each row is read of any list above, and a model of a Copy type has to give
+// back what stands past `len`.
 #[derive(Clone, Copy)]
 pub struct SpanList {
     pub(crate) rows: [Bounds; 64],

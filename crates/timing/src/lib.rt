@@ -1,4 +1,4 @@
-// Rack calls for C to time: on numbers and one area.
+// Rack calls for C to time: on numbers and one area, each under a name that C calls.
 #![tactic(auto)]
 
 ghost use Rattle.std.specs.Prelude.{◌≡◌, min};
@@ -40,7 +40,7 @@ fn timed_shape(channels: usize, samples: usize) -> Shape
     }
 }
 
-// 0, or the number of the refusal.
+// 0, or the number of the refusal: C is answered by a number.
 fn number_of(answer: Result<(), Refusal>) -> u8
     ensures { result ≡ answer_number answer }
 {

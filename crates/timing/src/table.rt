@@ -8,7 +8,7 @@ use stages::quotient::Quotient;
 use stages::stage::{Axis, Dep, Rct, Stage};
 use stages::table::Table;
 
-// The stages that are timed.
+// The stages that are timed, by the numbers under which C asks for them.
 #[derive(Clone, Copy)]
 pub struct Timed;
 
