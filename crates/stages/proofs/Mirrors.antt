@@ -1,20 +1,9 @@
 -- Indices outside a line: mirrored by the relation, and by the function.
-use Rattle.std.proofs.Common.{◌≡◌, ℕ, zero, suc, ◌+◌, ◌-◌, ◌*◌, ◌%◌, ◌<◌, ◌≤◌, ℤ, pos, negsuc, ◌-ℤ◌, nat_abs, ◌≤ℤ◌, ◌<ℤ◌, sym, refl, ◌∙◌, subst, add-one, arith}
+use Rattle.std.proofs.Common.{◌≡◌, ℕ, zero, suc, ◌+◌, ◌-◌, ◌*◌, ◌%◌, ◌<◌, ◌≤◌, ℤ, pos, negsuc, ◌-ℤ◌, nat_abs, ◌≤ℤ◌, ◌<ℤ◌, sym, refl, ◌∙◌, subst, ⊎_elim, min, neg_ℤ, add-one, arith}
+use Rattle.std.proofs.Math.Nat.{mod-eq_of_lt, mod-eq-sub-mod}
 use Rattle.std.proofs.lemmas.Int.{ints}
-use Rattle.std.proofs.lemmas.Bool.{cond-true, cond-false, lt-ltb, le-ltb}
+use Rattle.std.proofs.lemmas.Bool.{cond-true, cond-false, lt-ltb, le-ltb, cases_lt}
 use Rattle.stages.specs.Lines.{MirroredTo, inside, below, above, mirror_by, mirror, nearest}
-
-pub mirror-below : (n i : ℕ) (z w : ℤ) → z <ℤ pos 0 → w ≡ pos 0 -ℤ z → MirroredTo n w i → MirroredTo n z i
-mirror-below n i (pos k) w h e m = absurd (omega (arith, ints))
-mirror-below n i (negsuc k) w h e m = let d : w ≡ pos (suc k) = omega (arith, ints) in below (subst (λ x. MirroredTo n x i) d m)
-
-pub mirror-above : (n i : ℕ) (z w : ℤ) → pos n ≤ℤ z → w ≡ pos (2 * (n - 1)) -ℤ z → MirroredTo n w i → MirroredTo n z i
-mirror-above n i (pos k) w h e m = above (omega (arith, ints)) (subst (λ x. MirroredTo n x i) e m)
-mirror-above n i (negsuc k) w h e m = absurd (omega (arith, ints))
-
-pub mirror-inside : (n : ℕ) (z : ℤ) → pos 0 ≤ℤ z → z <ℤ pos n → MirroredTo n z (nat_abs z)
-mirror-inside n (pos k) g h = inside (omega (arith, ints))
-mirror-inside n (negsuc k) g h = absurd (omega (arith, ints))
 
 -- how many mirrorings are enough
 abbrev turns : ℤ → ℕ
@@ -35,6 +24,38 @@ pub mirrored_is : (n i : ℕ) (z : ℤ) → 2 ≤ n → MirroredTo n z i → i �
 unfolding mirror
 mirrored_is n i (pos k) h m = mirrored_by n (2 * k + 2) i (pos k) h (omega arith) m
 mirrored_is n i (negsuc k) h m = mirrored_by n (2 * suc k + 2) i (negsuc k) h (omega arith) m
+
+-- the place of k in a period of mirrorings, there and back
+abbrev pub turned : ℕ → ℕ → ℕ
+turned n k = min (k % (2 * (n - 1))) (2 * (n - 1) - k % (2 * (n - 1)))
+
+pub turned-inside : (n k : ℕ) → 2 ≤ n → k < n → turned n k ≡ k
+turned-inside n k h l = let e : k % (2 * (n - 1)) ≡ k = mod-eq_of_lt (omega arith) in rw e (omega arith)
+
+mirrored-back : (n i k : ℕ) → MirroredTo n (pos k) i → MirroredTo n (neg_ℤ (pos k)) i
+mirrored-back n i zero m = m
+mirrored-back n i (suc k) m = below m
+
+mirrored-turn : (n f k : ℕ) → 2 ≤ n → k < f → MirroredTo n (pos k) (turned n k)
+mirrored-turn n zero k h l = absurd (omega arith)
+mirrored-turn n (suc f) k h l =
+    let p : ℕ = 2 * (n - 1) in
+    ⊎_elim (λ low. subst (MirroredTo n (pos k)) (sym (turned-inside n k h low)) (inside low)) (λ (high : n ≤ k).
+    above high (⊎_elim
+    (λ (near : k < p).
+    let e : k % p ≡ k = mod-eq_of_lt near in
+    let i : turned n k ≡ p - k = rw e (omega arith) in
+    let z : pos p -ℤ pos k ≡ pos (p - k) = omega (arith, ints) in
+    rw (z, i) (inside {i = p - k} (omega arith)))
+    (λ (far : p ≤ k).
+    let e : k % p ≡ (k - p) % p = mod-eq-sub-mod far in
+    let z : pos p -ℤ pos k ≡ neg_ℤ (pos (k - p)) = omega (arith, ints) in
+    rw (z, e) (mirrored-back n _ (k - p) (mirrored-turn n f (k - p) h (omega arith))))
+    (cases_lt k p))) (cases_lt k n)
+
+pub mirrored-turned : (n : ℕ) (z : ℤ) → 2 ≤ n → MirroredTo n z (turned n (nat_abs z))
+mirrored-turned n (pos k) h = mirrored-turn n (suc k) k h (omega arith)
+mirrored-turned n (negsuc k) h = mirrored-back n _ (suc k) (mirrored-turn n (suc (suc k)) (suc k) h (omega arith))
 
 pub nearest-below : (n : ℕ) (z : ℤ) → z <ℤ pos 0 → nearest n z ≡ nat_abs z % 2
 unfolding nearest

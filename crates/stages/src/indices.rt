@@ -1,7 +1,6 @@
 ghost use Rattle.std.specs.Prelude.{◌≡◌};
 ghost use Rattle.stages.specs.Lines.{first_index, index_count};
 
-use crate::lines::{first_index, index_count};
 use crate::stage::Lift;
 
 impl Lift {
@@ -9,13 +8,16 @@ impl Lift {
     pub fn first_index(&self, place: u32) -> usize
         ensures { result ≡ first_index self.now.level place }
     {
-        first_index(self.level, place as usize)
+        let step = 1usize << self.level;
+        (place as usize + (step - 1)) / step
     }
 
     // How many indices the line has that begins at a place and has so many places.
     pub fn index_count(&self, place: u32, places: u32) -> usize
         ensures { result ≡ index_count self.now.level place places }
     {
-        index_count(self.level, place as usize, places as usize)
+        let end = place as usize + places as usize;
+        let last = end.saturating_sub(1) >> self.level;
+        (last + 1).saturating_sub(self.first_index(place))
     }
 }

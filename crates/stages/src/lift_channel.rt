@@ -6,8 +6,7 @@ ghost use Rattle.stages.specs.Plain.{plain_steps, plain_lift};
 ghost use Rattle.stages.specs.Ranges.{all_fit};
 
 use crate::gather::listed;
-use crate::line::Line;
-use crate::lines::index_count;
+use crate::line::{Indices, Line};
 use crate::ranges::{join, row_at};
 use crate::stage::Lift;
 use sets::span::Span;
@@ -18,7 +17,7 @@ fn line_length(lift: &Lift) -> usize
     ensures value { result ≡ line_length (plain_lift lift.now) }
     ensures small { result ≤ 64 }
 {
-    index_count(lift.level, 0, lift.count)
+    lift.index_count(0, lift.count as u32)
 }
 
 // The spans of the line's indices.
@@ -40,11 +39,11 @@ fn line_ends(lift: &Lift, spans: &SpanList) -> Option<SpanList>
     if count < 2 {
         return Some(along);
     }
-    let line = Line::Indices {
+    let indices = Indices {
         extension: lift.extension,
         count,
     };
-    line.walk(&along, lift)
+    Line::Indices(indices).walk(&along, lift)
 }
 
 impl Lift {

@@ -1,87 +1,60 @@
-ghost use Rattle.std.specs.Prelude.{◌≡◌, ◌-◌, ◌*◌, ◌^◌, ◌<◌, ◌≤◌, pos, ◌-ℤ◌, neg_ℤ, ◌≤ℤ◌};
-ghost use Rattle.stages.specs.Lines.{first_index, index_count, MirroredTo, mirror, nearest, extended};
-ghost use Rattle.stages.specs.Slots.{Usable, slot_of};
+ghost use Rattle.std.specs.Prelude.{◌≡◌};
+ghost use Rattle.stages.specs.Lines.{MirroredTo, mirror, nearest, extended};
+ghost use Rattle.stages.specs.Slots.{slot_of};
 
-use crate::line::Line;
+use crate::line::{Indices, Line};
 use crate::stage::Extension;
 
-// The first index of a line that begins at a place.
-pub(crate) fn first_index(level: u32, place: usize) -> usize
-    requires { (level ≤ 15) × (place ≤ 2 ^ 32) }
-    ensures { result ≡ first_index level place }
-{
-    (place + ((1usize << level) - 1)) >> level
-}
+impl Indices {
+    // An index mirrored about the first and about the last of the line until it is inside: two mirrorings move it by the period.
+    fn mirrored(&self, index: i64) -> usize
+        ensures is { MirroredTo self.now.count index result }
+        ensures value { result ≡ mirror self.now.count index }
+    {
+        let far = index.unsigned_abs() as usize;
+        if far < self.count {
+            // most indices are inside, and need no division
+            return far;
+        }
+        let period = 2 * (self.count - 1);
+        let turn = far % period;
+        turn.min(period - turn)
+    }
 
-// How many indices the line has that begins at a place and has so many places.
-pub(crate) fn index_count(level: u32, place: usize, places: usize) -> usize
-    requires { (level ≤ 15) × ((place ≤ 2 ^ 32) × (places ≤ 2 ^ 32)) }
-    ensures { result ≡ index_count level place places }
-{
-    let last = (place + places).saturating_sub(1) >> level;
-    (last + 1).saturating_sub(first_index(level, place))
-}
-
-// An index past the last of n, mirrored about the last.
-fn turned_back(n: usize, p: i64) -> i64
-    requires { (2 ≤ n) × ((n ≤ 2 ^ 21) × (pos 0 ≤ℤ p)) }
-    ensures { result ≡ pos (2 * (n - 1)) -ℤ p }
-{
-    2 * (n as i64 - 1) - p
-}
-
-fn mirrored(n: usize, z: i64) -> usize
-    requires { (2 ≤ n) × ((n ≤ 2 ^ 21) × ((z ≤ℤ pos (2 ^ 40)) × (neg_ℤ (pos (2 ^ 40)) ≤ℤ z))) }
-    ensures is { MirroredTo n z result }
-    ensures value { result ≡ mirror n z }
-{
-    let last = n as i64 - 1;
-    let mut p = z;
-    loop {
-        if p < 0 {
-            p = -p;
-        } else if p > last {
-            p = turned_back(n, p);
+    // The nearest inside index of the same parity.
+    fn nearest(&self, index: i64) -> usize
+        ensures { result ≡ nearest self.now.count index }
+    {
+        let far = index.unsigned_abs() as usize;
+        let last = self.count - 1;
+        if index < 0 {
+            far % 2
+        } else if far < self.count {
+            far
         } else {
-            return p as usize;
+            last - (far - last) % 2
         }
     }
-}
 
-fn nearest_to(n: usize, z: i64) -> usize
-    requires { (2 ≤ n) × (n ≤ 2 ^ 21) }
-    ensures { result ≡ nearest n z }
-{
-    let k = z.unsigned_abs() as usize;
-    if z < 0 {
-        k % 2
-    } else if k < n {
-        k
-    } else {
-        n - 1 - (k - (n - 1)) % 2
-    }
-}
-
-// The index inside a line of n that is read for any index.
-pub(crate) fn extended_index(extension: Extension, n: usize, z: i64) -> usize
-    requires { (2 ≤ n) × ((n ≤ 2 ^ 21) × ((z ≤ℤ pos (2 ^ 40)) × (neg_ℤ (pos (2 ^ 40)) ≤ℤ z))) }
-    ensures { result ≡ extended extension n z }
-{
-    match extension {
-        Extension::Mirrored => mirrored(n, z),
-        Extension::Nearest => nearest_to(n, z),
+    // The inside index that is read for any index.
+    pub(crate) fn inside(&self, index: i64) -> usize
+        ensures { result ≡ extended self.now.extension self.now.count index }
+    {
+        match self.extension {
+            Extension::Mirrored => self.mirrored(index),
+            Extension::Nearest => self.nearest(index),
+        }
     }
 }
 
 impl Line {
     // The slot in which the span of an index stands, also of an index outside the line.
-    pub(crate) fn slot(&self, z: i64) -> usize
-        requires { (Usable self.now) × ((z ≤ℤ pos (2 ^ 40)) × (neg_ℤ (pos (2 ^ 40)) ≤ℤ z)) }
-        ensures { result ≡ slot_of self.now z }
+    pub(crate) fn slot(&self, index: i64) -> usize
+        ensures { result ≡ slot_of self.now index }
     {
         match *self {
-            Line::Parities => z.unsigned_abs() as usize % 2,
-            Line::Indices { extension, count } => extended_index(extension, count, z),
+            Line::Parities => index.unsigned_abs() as usize % 2,
+            Line::Indices(indices) => indices.inside(index),
         }
     }
 }

@@ -1,7 +1,7 @@
 ghost use Rattle.std.specs.Prelude.{◌≡◌, ◌&&◌, if◌then◌else◌, Some, None};
 ghost use Rattle.stages.specs.Lines.{is_line, is_index, extended};
 
-use crate::lines::extended_index;
+use crate::line::Indices;
 use crate::stage::Extension;
 
 impl Extension {
@@ -11,7 +11,11 @@ impl Extension {
         ensures { result ≡ (if is_line count && is_index index then Some (extended self count index) else None) }
     {
         if count >= 2 && count <= 2097152 && index >= -1099511627776 && index <= 1099511627776 {
-            Some(extended_index(self, count, index))
+            let line = Indices {
+                extension: self,
+                count,
+            };
+            Some(line.inside(index))
         } else {
             None
         }

@@ -4,7 +4,7 @@ ghost use Rattle.stages.specs.Lifting.{parity_of, source_index, slot_after, step
 ghost use Rattle.stages.specs.Made.{MadeSpan, MadeList};
 ghost use Rattle.stages.specs.Plain.{plain_step, plain_steps};
 ghost use Rattle.stages.specs.Ranges.{at, fits, all_fit};
-ghost use Rattle.stages.specs.Slots.{slot_of, Usable};
+ghost use Rattle.stages.specs.Slots.{slot_of};
 
 use crate::gather::{gathered, listed};
 use crate::line::Line;
@@ -16,7 +16,7 @@ use sets::span_list::SpanList;
 impl Line {
     // The span of a slot after one step over all slots, each read before any is changed.
     fn moved(&self, slots: &SpanList, parity: Parity, step: &Step, slot: usize) -> Option<Span>
-        requires { Usable self.now × (slot < 64) }
+        requires { slot < 64 }
         ensures { MadeSpan result (fits (slot_after (slot_of self.now) parity (plain_step step.now) (rows_of slots.now) slot)) (slot_after (slot_of self.now) parity (plain_step step.now) (rows_of slots.now) slot) }
     {
         let span = row_at(slots, slot);
@@ -35,7 +35,6 @@ impl Line {
 
     // The slots after one step.
     fn stepped(&self, slots: &SpanList, parity: Parity, step: &Step) -> Option<SpanList>
-        requires { Usable self.now }
         ensures { MadeList result (all_fit (stepped (slot_of self.now) parity (plain_step step.now) (rows_of slots.now))) (stepped (slot_of self.now) parity (plain_step step.now) (rows_of slots.now)) }
     {
         gathered(slots.len(), |slot| self.moved(slots, parity, step, slot))
@@ -43,7 +42,6 @@ impl Line {
 
     // The slots after all steps of a lifting, which change the parities in turn.
     pub(crate) fn walk(&self, slots: &SpanList, lift: &Lift) -> Option<SpanList>
-        requires { Usable self.now }
         ensures { MadeList result (all_fit (walked (slot_of self.now) lift.now.parity (plain_steps lift.now) (rows_of slots.now))) (ended (slot_of self.now) lift.now.parity (plain_steps lift.now) (rows_of slots.now)) }
     {
         let mut reached = *slots;
