@@ -8,7 +8,8 @@ ghost use Rattle.stages.specs.Ranges.{all_fit};
 use crate::gather::gathered;
 use crate::indexed::Indexed;
 use crate::line::Line;
-use crate::ranges::{join, raise, row_at, widened};
+use crate::ranges::{join, raise, row_at};
+use crate::reach::Reach;
 use crate::stage::Lift;
 use sets::shape::Shape;
 use sets::span::Span;
@@ -32,7 +33,7 @@ fn channel_ends(shape: &Shape, lift: &Lift, span: &Span) -> Option<SpanList>
     let pair = two(*span, *span);
     match lift.indexed(shape.origin as u32, shape.samples as u32) {
         Indexed::Many => Line::Parities.walk(&pair, lift),
-        Indexed::LoneOdd => Some(two(raise(span, &widened(span))?, *span)),
+        Indexed::LoneOdd => Some(two(raise(span, &Reach::from(*span))?, *span)),
         Indexed::Still => Some(pair),
     }
 }

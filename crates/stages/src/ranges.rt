@@ -30,21 +30,7 @@ pub(crate) fn raise(span: &Span, by: &Reach) -> Option<Span>
 pub(crate) fn lower(span: &Span, by: &Reach) -> Option<Span>
     ensures { MadeSpan result (fits (lowered (bounds_of span.now) (wide_of by.now))) (lowered (bounds_of span.now) (wide_of by.now)) }
 {
-    narrowed(
-        span.least as i64 - by.greatest,
-        span.greatest as i64 - by.least,
-    )
-}
-
-// The span itself, as what another is raised or lowered by.
-pub(crate) fn widened(span: &Span) -> Reach
-    ensures value { wide_of result ≡ bounds_of span.now }
-    ensures fitting { fits (wide_of result) ≡ true }
-{
-    Reach {
-        least: span.least as i64,
-        greatest: span.greatest as i64,
-    }
+    raise(span, &by.negated())
 }
 
 // The smallest span that holds both.

@@ -1,4 +1,6 @@
-ghost use Rattle.std.specs.Prelude.{◌^◌, pos, neg_ℤ, ◌≤ℤ◌};
+ghost use Rattle.std.specs.Prelude.{◌≡◌, ◌^◌, pos, neg_ℤ, ◌≤ℤ◌};
+
+use sets::span::Span;
 
 // The least and the greatest of a quotient, or of any other number that may be wider than a sample.
 #[derive(Clone, Copy)]
@@ -8,4 +10,33 @@ pub struct Reach {
     ghost ordered: { least ≤ℤ greatest },
     ghost low: { neg_ℤ (pos (2 ^ 50)) ≤ℤ least },
     ghost high: { greatest ≤ℤ pos (2 ^ 50) },
+}
+
+// A span is what another is raised or lowered by.
+impl From<Span> for Reach {
+    ghost use Rattle.sets.specs.Sets.{bounds_of};
+    ghost use Rattle.stages.specs.Made.{wide_of};
+
+    ghost from_gives = { λ s r. wide_of r ≡ bounds_of s };
+
+    fn from(span: Span) -> Reach {
+        Reach {
+            least: span.least as i64,
+            greatest: span.greatest as i64,
+        }
+    }
+}
+
+impl Reach {
+    ghost use Rattle.stages.specs.Made.{between, wide_of};
+
+    // The numbers with their signs turned.
+    pub(crate) fn negated(&self) -> Reach
+        ensures { wide_of result ≡ between (neg_ℤ self.now.greatest) (neg_ℤ self.now.least) }
+    {
+        Reach {
+            least: -self.greatest,
+            greatest: -self.least,
+        }
+    }
 }

@@ -1,6 +1,6 @@
 use Rattle.std.proofs.Common.{pos, ◌+ℤ◌, ◌*ℤ◌, ◌∙◌, arith, w64, SFits, rules}
 use Rattle.std.proofs.lemmas.Int.{ints, to_z-of_z}
-use Rattle.stages.proofs.rct_spans.quarter.Goals as goal
+use Rattle.stages.proofs.colour.luma.Goals as goal
 
 pub returns : goal.returns
 returns c =
@@ -13,5 +13,5 @@ returns c =
     let twice : SFits w64 (pos 2 *ℤ c.args.b) = omega (arith, ints) in
     let part : SFits w64 (pos 2 *ℤ c.args.b +ℤ c.args.c) = omega (arith, ints) in
     let sum : SFits w64 (c.args.a +ℤ (pos 2 *ℤ c.args.b +ℤ c.args.c)) = omega (arith, ints) in
-    let r : SFits w64 c.shifted.result = search rules in
-    to_z-of_z w64 _ r ∙ simp to_z-of_z at c.shifted.ensures.value
+    let r : SFits w64 c.quarter.result = search rules in
+    to_z-of_z w64 _ r ∙ simp to_z-of_z at c.quarter.ensures

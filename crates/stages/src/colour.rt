@@ -1,0 +1,18 @@
+ghost use Rattle.std.specs.Prelude.{◌≡◌, pos, ◌+ℤ◌, ◌*ℤ◌};
+ghost use Rattle.stages.specs.Floors.{floor_over};
+
+use crate::floor::shifted;
+
+// The floor of a quarter.
+pub fn quarter(sum: i64) -> i64
+    ensures { result ≡ floor_over sum 2 }
+{
+    shifted(sum, 2)
+}
+
+// The first new channel of the colour transform, from the three old ones.
+pub fn luma(a: i32, b: i32, c: i32) -> i64
+    ensures { result ≡ floor_over (a +ℤ (pos 2 *ℤ b +ℤ c)) 2 }
+{
+    quarter(a as i64 + (2 * b as i64 + c as i64))
+}
