@@ -22,21 +22,15 @@ fn row_after(dep: &Dep, spans: &SpanList, i: usize) -> Option<Span>
     lower(&span, &quotient.reach(&before))
 }
 
-// The span of a channel after the rows.
-fn span_after(dep: &Dep, spans: &SpanList, channel: usize) -> Option<Span>
-    requires { dep.now.first + dep.now.count ≤ length (rows_of spans.now) }
-    ensures { MadeSpan result (dep_fits dep.now.first dep.now.count (plain_rows dep.now) (rows_of spans.now) channel) (dep_at dep.now.first dep.now.count (plain_rows dep.now) (rows_of spans.now) channel) }
-{
-    if dep.first < channel && channel < dep.first + dep.count {
-        row_after(dep, spans, channel - dep.first)
-    } else {
-        Some(row_at(spans, channel))
-    }
-}
-
 pub(crate) fn dep_spans(dep: &Dep, spans: &SpanList) -> Option<SpanList>
     requires { dep.now.first + dep.now.count ≤ length (rows_of spans.now) }
     ensures { MadeList result (all_fit (dep_made dep.now.first (plain_rows dep.now) (rows_of spans.now))) (dep_after dep.now.first (plain_rows dep.now) (rows_of spans.now)) }
 {
-    gathered(spans.len(), |channel| span_after(dep, spans, channel))
+    gathered(spans.len(), |channel| {
+        if dep.first < channel && channel < dep.first + dep.count {
+            row_after(dep, spans, channel - dep.first)
+        } else {
+            Some(row_at(spans, channel))
+        }
+    })
 }

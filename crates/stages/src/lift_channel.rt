@@ -61,26 +61,17 @@ impl Lift {
     }
 }
 
-// The span of a channel after a lifting along the channels whose line has ended so.
-fn span_after(lift: &Lift, spans: &SpanList, ends: &SpanList, channel: usize) -> Span
-    requires { channel < 64 }
-    ensures { bounds_of result ≡ channel_at (plain_lift lift.now) (rows_of ends.now) (rows_of spans.now) channel }
-{
-    let span = row_at(spans, channel);
-    if lift.on_line(channel) {
-        join(&span, &row_at(ends, lift.index_of(channel)))
-    } else {
-        span
-    }
-}
-
 // The spans after a lifting along the channels.
 pub(crate) fn along_channels(lift: &Lift, spans: &SpanList) -> Option<SpanList>
     ensures { MadeList result (all_fit (line_made (plain_lift lift.now) (plain_steps lift.now) (rows_of spans.now))) (channels_after (plain_lift lift.now) (plain_steps lift.now) (rows_of spans.now)) }
 {
     let ends = line_ends(lift, spans)?;
-    Some(listed(
-        spans.len(),
-        |channel| span_after(lift, spans, &ends, channel),
-    ))
+    Some(listed(spans.len(), |channel| {
+        let span = row_at(spans, channel);
+        if lift.on_line(channel) {
+            join(&span, &row_at(&ends, lift.index_of(channel)))
+        } else {
+            span
+        }
+    }))
 }

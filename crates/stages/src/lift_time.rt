@@ -59,26 +59,17 @@ impl Lift {
     }
 }
 
-// The span of any channel after a lifting along the samples of those that it lists.
-fn span_after(shape: &Shape, lift: &Lift, spans: &SpanList, channel: usize) -> Option<Span>
-    requires { (shape.now.origin ≤ 2 ^ 20) × (shape.now.samples ≤ 2 ^ 20) }
-    ensures { MadeSpan result (time_fits shape.now (plain_lift lift.now) (plain_steps lift.now) (rows_of spans.now) channel) (time_at shape.now (plain_lift lift.now) (plain_steps lift.now) (rows_of spans.now) channel) }
-{
-    let span = row_at(spans, channel);
-    if lift.lists(channel) {
-        channel_after(shape, lift, &span)
-    } else {
-        Some(span)
-    }
-}
-
 // The spans after a lifting along the samples.
 pub(crate) fn along_samples(shape: &Shape, lift: &Lift, spans: &SpanList) -> Option<SpanList>
     requires { (shape.now.origin ≤ 2 ^ 20) × ((shape.now.samples ≤ 2 ^ 20) × (lift.now.first + lift.now.count ≤ length (rows_of spans.now))) }
     ensures { MadeList result (all_fit (samples_made shape.now (plain_lift lift.now) (plain_steps lift.now) (rows_of spans.now))) (samples_after shape.now (plain_lift lift.now) (plain_steps lift.now) (rows_of spans.now)) }
 {
-    gathered(
-        spans.len(),
-        |channel| span_after(shape, lift, spans, channel),
-    )
+    gathered(spans.len(), |channel| {
+        let span = row_at(spans, channel);
+        if lift.lists(channel) {
+            channel_after(shape, lift, &span)
+        } else {
+            Some(span)
+        }
+    })
 }

@@ -23,31 +23,22 @@ fn luma_span(a: &Span, b: &Span, c: &Span) -> Option<Span>
     )
 }
 
-// The span of a channel, where three new ones stand from `first` on.
-fn coloured(spans: &SpanList, first: usize, y0: Span, y1: Span, y2: Span, channel: usize) -> Span
-    requires { first < 64 }
-    ensures { bounds_of result ≡ coloured first (bounds_of y0) (bounds_of y1) (bounds_of y2) (rows_of spans.now) channel }
-{
-    if channel == first {
-        y0
-    } else if channel == first + 1 {
-        y1
-    } else if channel == first + 2 {
-        y2
-    } else {
-        row_at(spans, channel)
-    }
-}
-
 // The spans with the three new ones in place.
 fn recoloured(spans: &SpanList, first: usize, y0: Span, y1: Span, y2: Span) -> SpanList
     requires { first < 64 }
     ensures { rows_of result ≡ map (coloured first (bounds_of y0) (bounds_of y1) (bounds_of y2) (rows_of spans.now)) (range_with_len 0 (length (rows_of spans.now))) }
 {
-    listed(
-        spans.len(),
-        |channel| coloured(spans, first, y0, y1, y2, channel),
-    )
+    listed(spans.len(), |channel| {
+        if channel == first {
+            y0
+        } else if channel == first + 1 {
+            y1
+        } else if channel == first + 2 {
+            y2
+        } else {
+            row_at(spans, channel)
+        }
+    })
 }
 
 pub(crate) fn rct_spans(rct: &Rct, spans: &SpanList) -> Option<SpanList>
