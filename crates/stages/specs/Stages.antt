@@ -11,7 +11,12 @@ use Rattle.stages.specs.Lifting.{lift_after, lift_made}
 use Rattle.stages.specs.Plain.{Plain, lift, dep, rct}
 use Rattle.stages.specs.Ranges.{all_fit}
 
--- a stage lists the channels from its first one on, before end_of
+-- a stage lists the channels from first_of on, before end_of
+abbrev pub first_of : Plain → ℕ
+first_of (lift l ss) = l.first
+first_of (dep first rows) = first
+first_of (rct first) = first
+
 abbrev pub end_of : Plain → ℕ
 end_of (lift l ss) = l.first + l.count
 end_of (dep first rows) = first + (length rows + 1)

@@ -1,6 +1,7 @@
 // The kinds of stage: lifting, the reversible colour transform, and dependency rows.
 #![tactic(auto)]
 
+mod checked;
 pub mod colour;
 mod counted;
 mod dep_spans;

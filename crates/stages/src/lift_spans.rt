@@ -5,18 +5,18 @@ ghost use Rattle.stages.specs.Made.{MadeList};
 ghost use Rattle.stages.specs.Plain.{plain_steps, plain_lift};
 ghost use Rattle.stages.specs.Ranges.{all_fit};
 
+use crate::checked::Checked;
 use crate::lift_channel::along_channels;
 use crate::lift_time::along_samples;
 use crate::stage::{Axis, Lift};
-use sets::shape::Shape;
 use sets::span_list::SpanList;
 
-pub(crate) fn lift_spans(shape: &Shape, lift: &Lift, spans: &SpanList) -> Option<SpanList>
-    requires { (shape.now.origin ≤ 2 ^ 20) × ((shape.now.samples ≤ 2 ^ 20) × (lift.now.first + lift.now.count ≤ length (rows_of spans.now))) }
-    ensures { MadeList result (all_fit (lift_made shape.now (plain_lift lift.now) (plain_steps lift.now) (rows_of spans.now))) (lift_after shape.now (plain_lift lift.now) (plain_steps lift.now) (rows_of spans.now)) }
+pub(crate) fn lift_spans(set: &Checked, lift: &Lift, spans: &SpanList) -> Option<SpanList>
+    requires { lift.now.first + lift.now.count ≤ length (rows_of spans.now) }
+    ensures { MadeList result (all_fit (lift_made set.now.shape (plain_lift lift.now) (plain_steps lift.now) (rows_of spans.now))) (lift_after set.now.shape (plain_lift lift.now) (plain_steps lift.now) (rows_of spans.now)) }
 {
     match lift.axis {
-        Axis::Time => along_samples(shape, lift, spans),
+        Axis::Time => along_samples(set, lift, spans),
         Axis::Channel => along_channels(lift, spans),
     }
 }

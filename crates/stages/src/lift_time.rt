@@ -5,13 +5,13 @@ ghost use Rattle.stages.specs.Made.{MadeSpan, MadeList};
 ghost use Rattle.stages.specs.Plain.{plain_steps, plain_lift};
 ghost use Rattle.stages.specs.Ranges.{all_fit};
 
+use crate::checked::Checked;
 use crate::gather::gathered;
 use crate::indexed::Indexed;
 use crate::line::Line;
 use crate::ranges::{join, raise, row_at};
 use crate::reach::Reach;
 use crate::stage::Lift;
-use sets::shape::Shape;
 use sets::span::Span;
 use sets::span_list::SpanList;
 
@@ -26,12 +26,11 @@ fn two(a: Span, b: Span) -> SpanList
 }
 
 // The spans of the even and of the odd indices of a channel after a lifting along its samples.
-fn channel_ends(shape: &Shape, lift: &Lift, span: &Span) -> Option<SpanList>
-    requires { (shape.now.origin ≤ 2 ^ 20) × (shape.now.samples ≤ 2 ^ 20) }
-    ensures { MadeList result (all_fit (channel_made shape.now (plain_lift lift.now) (plain_steps lift.now) (bounds_of span.now))) (channel_ends shape.now (plain_lift lift.now) (plain_steps lift.now) (bounds_of span.now)) }
+fn channel_ends(set: &Checked, lift: &Lift, span: &Span) -> Option<SpanList>
+    ensures { MadeList result (all_fit (channel_made set.now.shape (plain_lift lift.now) (plain_steps lift.now) (bounds_of span.now))) (channel_ends set.now.shape (plain_lift lift.now) (plain_steps lift.now) (bounds_of span.now)) }
 {
     let pair = two(*span, *span);
-    match lift.indexed(shape.origin as u32, shape.samples as u32) {
+    match lift.indexed(set.shape.origin as u32, set.shape.samples as u32) {
         Indexed::Many => Line::Parities.walk(&pair, lift),
         Indexed::LoneOdd => Some(two(raise(span, &Reach::from(*span))?, *span)),
         Indexed::Still => Some(pair),
@@ -39,11 +38,10 @@ fn channel_ends(shape: &Shape, lift: &Lift, span: &Span) -> Option<SpanList>
 }
 
 // The span of a channel after a lifting along its samples.
-fn channel_after(shape: &Shape, lift: &Lift, span: &Span) -> Option<Span>
-    requires { (shape.now.origin ≤ 2 ^ 20) × (shape.now.samples ≤ 2 ^ 20) }
-    ensures { MadeSpan result (all_fit (channel_made shape.now (plain_lift lift.now) (plain_steps lift.now) (bounds_of span.now))) (channel_after shape.now (plain_lift lift.now) (plain_steps lift.now) (bounds_of span.now)) }
+fn channel_after(set: &Checked, lift: &Lift, span: &Span) -> Option<Span>
+    ensures { MadeSpan result (all_fit (channel_made set.now.shape (plain_lift lift.now) (plain_steps lift.now) (bounds_of span.now))) (channel_after set.now.shape (plain_lift lift.now) (plain_steps lift.now) (bounds_of span.now)) }
 {
-    let ends = channel_ends(shape, lift, span)?;
+    let ends = channel_ends(set, lift, span)?;
     let even = row_at(&ends, 0);
     let odd = row_at(&ends, 1);
     let both = join(&even, &odd);
@@ -60,14 +58,14 @@ impl Lift {
 }
 
 // The spans after a lifting along the samples.
-pub(crate) fn along_samples(shape: &Shape, lift: &Lift, spans: &SpanList) -> Option<SpanList>
-    requires { (shape.now.origin ≤ 2 ^ 20) × ((shape.now.samples ≤ 2 ^ 20) × (lift.now.first + lift.now.count ≤ length (rows_of spans.now))) }
-    ensures { MadeList result (all_fit (samples_made shape.now (plain_lift lift.now) (plain_steps lift.now) (rows_of spans.now))) (samples_after shape.now (plain_lift lift.now) (plain_steps lift.now) (rows_of spans.now)) }
+pub(crate) fn along_samples(set: &Checked, lift: &Lift, spans: &SpanList) -> Option<SpanList>
+    requires { lift.now.first + lift.now.count ≤ length (rows_of spans.now) }
+    ensures { MadeList result (all_fit (samples_made set.now.shape (plain_lift lift.now) (plain_steps lift.now) (rows_of spans.now))) (samples_after set.now.shape (plain_lift lift.now) (plain_steps lift.now) (rows_of spans.now)) }
 {
     gathered(spans.len(), |channel| {
         let span = row_at(spans, channel);
         if lift.lists(channel) {
-            channel_after(shape, lift, &span)
+            channel_after(set, lift, &span)
         } else {
             Some(span)
         }

@@ -1,10 +1,11 @@
-ghost use Rattle.std.specs.Prelude.{◌≡◌, ◌^◌, ◌≤◌, length};
+ghost use Rattle.std.specs.Prelude.{◌≡◌, ◌≤◌, length};
 ghost use Rattle.sets.specs.Sets.{rows_of};
 ghost use Rattle.stages.specs.Made.{MadeList};
 ghost use Rattle.stages.specs.Plain.{plain};
 ghost use Rattle.stages.specs.Ranges.{all_fit};
-ghost use Rattle.stages.specs.Stages.{end_of, fits_in, bounds_made, spans_after, spans_refused, Ruled, answered, spans_then};
+ghost use Rattle.stages.specs.Stages.{first_of, end_of, fits_in, bounds_made, spans_after, spans_refused, Ruled, answered, spans_then};
 
+use crate::checked::Checked;
 use crate::dep_spans::dep_spans;
 use crate::lift_spans::lift_spans;
 use crate::rct_spans::rct_spans;
@@ -14,6 +15,17 @@ use sets::shape::Shape;
 use sets::span_list::SpanList;
 
 impl Stage {
+    // The first channel that the stage lists.
+    pub fn first(&self) -> usize
+        ensures { result ≡ first_of (plain self.now) }
+    {
+        match *self {
+            Stage::Lift(lift) => lift.first,
+            Stage::Dep(dep) => dep.first,
+            Stage::Rct(rct) => rct.first,
+        }
+    }
+
     // The channel after the last that the stage lists.
     fn end(&self) -> usize
         ensures { result ≡ end_of (plain self.now) }
@@ -32,12 +44,12 @@ impl Stage {
     }
 
     // The spans after the stage; none where a bound is beyond 32 bits.
-    fn widened(&self, shape: &Shape, spans: &SpanList) -> Option<SpanList>
-        requires { (shape.now.origin ≤ 2 ^ 20) × ((shape.now.samples ≤ 2 ^ 20) × (end_of (plain self.now) ≤ length (rows_of spans.now))) }
-        ensures { MadeList result (all_fit (bounds_made shape.now (plain self.now) (rows_of spans.now))) (spans_after shape.now (plain self.now) (rows_of spans.now)) }
+    fn widened(&self, set: &Checked, spans: &SpanList) -> Option<SpanList>
+        requires { end_of (plain self.now) ≤ length (rows_of spans.now) }
+        ensures { MadeList result (all_fit (bounds_made set.now.shape (plain self.now) (rows_of spans.now))) (spans_after set.now.shape (plain self.now) (rows_of spans.now)) }
     {
         match *self {
-            Stage::Lift(lift) => lift_spans(shape, &lift, spans),
+            Stage::Lift(lift) => lift_spans(set, &lift, spans),
             Stage::Dep(dep) => dep_spans(&dep, spans),
             Stage::Rct(rct) => rct_spans(&rct, spans),
         }
@@ -54,7 +66,8 @@ impl Stage {
         if !self.fits_in(shape.channels) {
             return Err(Refusal::DoesNotFit);
         }
-        self.widened(shape, spans).ok_or(Refusal::TooWide)
+        let set = Checked { shape: *shape };
+        self.widened(&set, spans).ok_or(Refusal::TooWide)
     }
 
     // Replaces the spans by those after the stage.

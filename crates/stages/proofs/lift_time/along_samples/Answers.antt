@@ -10,7 +10,7 @@ use Rattle.stages.proofs.lift_time.along_samples.Goals as goal
 
 pub returns : goal.returns
 returns c =
-    let f = c.args.shape.now in
+    let f = c.args.set.now.shape in
     let l = plain_lift c.args.lift.now in
     let ss = plain_steps c.args.lift.now in
     let bs = rows_of c.args.spans.now in

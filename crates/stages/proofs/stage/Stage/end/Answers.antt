@@ -1,12 +1,16 @@
-use Rattle.std.proofs.Common.{sym}
-use Rattle.stages.proofs.Plains.{end-of}
+use Rattle.std.proofs.Common.{◌+◌, refl, ap}
+use Rattle.stages.specs.Plain.{plain}
+use Rattle.stages.proofs.Plains.{rows_count}
 use Rattle.stages.proofs.stage.Stage.end.Goals as goal
 
 pub returns-in-Lift : goal.returns-in-Lift
-returns-in-Lift c = sym (end-of _ _ c.in-Lift.is)
+unfolding plain
+returns-in-Lift c = rw c.in-Lift.is refl
 
 pub returns-in-Dep : goal.returns-in-Dep
-returns-in-Dep c = sym (end-of _ _ c.in-Dep.is)
+unfolding plain
+returns-in-Dep c = rw c.in-Dep.is (ap (λ n. c.in-Dep.dep.first + n) (rows_count c.in-Dep.dep))
 
 pub returns-in-Rct : goal.returns-in-Rct
-returns-in-Rct c = sym (end-of _ _ c.in-Rct.is)
+unfolding plain
+returns-in-Rct c = rw c.in-Rct.is refl
