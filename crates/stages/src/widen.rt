@@ -16,6 +16,7 @@ use sets::span_list::SpanList;
 
 impl Stage {
     // The first channel that the stage lists.
+    #[tactic(auto, unfolding(crate::specs::Plain::plain))]
     pub fn first(&self) -> usize
         ensures { result ≡ first_of (plain self.now) }
     {
@@ -27,6 +28,7 @@ impl Stage {
     }
 
     // The channel after the last that the stage lists.
+    #[tactic(auto, using(crate::proofs::Plains::rows_count), unfolding(crate::specs::Plain::plain))]
     fn end(&self) -> usize
         ensures { result ≡ end_of (plain self.now) }
     {
@@ -44,6 +46,7 @@ impl Stage {
     }
 
     // The spans after the stage; none where a bound is beyond 32 bits.
+    #[tactic(auto, using(crate::proofs::Plains::rows_count), unfolding(crate::specs::Plain::plain))]
     fn widened(&self, set: &Checked, spans: &SpanList) -> Option<SpanList>
         requires { end_of (plain self.now) ≤ length (rows_of spans.now) }
         ensures { MadeList result (all_fit (bounds_made set.now.shape (plain self.now) (rows_of spans.now))) (spans_after set.now.shape (plain self.now) (rows_of spans.now)) }
