@@ -5,7 +5,9 @@ use Rattle.sets.specs.declared.span.Span.{Span}
 use Rattle.sets.specs.declared.span_list.SpanList.{SpanList}
 use Rattle.sets.specs.Sets.{bounds_of, rows_of}
 use Rattle.stages.specs.declared.reach.Reach.{Reach}
-use Rattle.stages.specs.Ranges.{at}
+use Rattle.stages.specs.declared.stage.Lift.{Lift}
+use Rattle.stages.specs.Plain.{PlainLift, PlainStep, plain_lift, plain_steps}
+use Rattle.stages.specs.Ranges.{fits, all_fit, at}
 
 abbrev pub between : ℤ → ℤ → Bounds
 between a b = record { least = a; greatest = b }
@@ -19,6 +21,18 @@ MadeSpan r test b = MatchOption r (test ≡ false) (λ s. (test ≡ true) × (bo
 
 abbrev pub MadeList : Option SpanList → Bool → List Bounds → Type 0
 MadeList r test bs = MatchOption r (test ≡ false) (λ l. (test ≡ true) × (rows_of l ≡ bs))
+
+-- the span of b, and none where b is beyond 32 bits
+abbrev pub Narrowed : Option Span → Bounds → Type 0
+Narrowed r b = MadeSpan r (fits b) b
+
+-- the spans bs, and none where a bound that is made on the way is beyond 32 bits
+abbrev pub AllNarrowed : Option SpanList → List Bounds → List Bounds → Type 0
+AllNarrowed r made bs = MadeList r (all_fit made) bs
+
+-- the same of what a lifting makes of x
+abbrev pub LiftMakes : {X : Type 0} → Option SpanList → (PlainLift → List PlainStep → X → List Bounds) → (PlainLift → List PlainStep → X → List Bounds) → Lift → X → Type 0
+LiftMakes r made after l x = AllNarrowed r (made (plain_lift l) (plain_steps l) x) (after (plain_lift l) (plain_steps l) x)
 
 -- the test passes at each number of the list
 abbrev pub every : (ℕ → Bool) → List ℕ → Bool

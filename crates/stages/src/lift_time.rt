@@ -1,7 +1,7 @@
-ghost use Rattle.std.specs.Prelude.{◌≡◌, ◌+◌, ◌^◌, ◌≤◌, [], ◌∷◌, length};
+ghost use Rattle.std.specs.Prelude.{◌≡◌, ◌+◌, ◌≤◌, [], ◌∷◌, length};
 ghost use Rattle.sets.specs.Sets.{bounds_of, rows_of};
-ghost use Rattle.stages.specs.Lifting.{lists_channel, channel_ends, channel_after, channel_made, time_fits, time_at, samples_made, samples_after};
-ghost use Rattle.stages.specs.Made.{MadeSpan, MadeList};
+ghost use Rattle.stages.specs.Lifting.{lists_channel, channel_ends, channel_after, channel_made, samples_made, samples_after};
+ghost use Rattle.stages.specs.Made.{MadeSpan, LiftMakes};
 ghost use Rattle.stages.specs.Plain.{plain_steps, plain_lift};
 ghost use Rattle.stages.specs.Ranges.{all_fit};
 
@@ -25,49 +25,47 @@ fn two(a: Span, b: Span) -> SpanList
     list
 }
 
-// The spans of the even and of the odd indices of a channel after a lifting along its samples.
-fn channel_ends(set: &Checked, lift: &Lift, span: &Span) -> Option<SpanList>
-    ensures { MadeList result (all_fit (channel_made set.now.shape (plain_lift lift.now) (plain_steps lift.now) (bounds_of span.now))) (channel_ends set.now.shape (plain_lift lift.now) (plain_steps lift.now) (bounds_of span.now)) }
-{
-    let pair = two(*span, *span);
-    match lift.indexed(set.shape.origin as u32, set.shape.samples as u32) {
-        Indexed::Many => Line::Parities.walk(&pair, lift),
-        Indexed::LoneOdd => Some(two(raise(span, &Reach::from(*span))?, *span)),
-        Indexed::Still => Some(pair),
-    }
-}
-
-// The span of a channel after a lifting along its samples.
-fn channel_after(set: &Checked, lift: &Lift, span: &Span) -> Option<Span>
-    ensures { MadeSpan result (all_fit (channel_made set.now.shape (plain_lift lift.now) (plain_steps lift.now) (bounds_of span.now))) (channel_after set.now.shape (plain_lift lift.now) (plain_steps lift.now) (bounds_of span.now)) }
-{
-    let ends = channel_ends(set, lift, span)?;
-    let even = row_at(&ends, 0);
-    let odd = row_at(&ends, 1);
-    let both = join(&even, &odd);
-    Some(join(span, &both))
-}
-
 impl Lift {
+    // The spans of the even and of the odd indices of a channel after the lifting along its samples.
+    fn channel_ends(&self, set: &Checked, span: &Span) -> Option<SpanList>
+        ensures { LiftMakes result (channel_made set.now.shape) (channel_ends set.now.shape) self.now (bounds_of span.now) }
+    {
+        let pair = two(*span, *span);
+        match self.indexed(set.shape.origin as u32, set.shape.samples as u32) {
+            Indexed::Many => Line::Parities.walk(&pair, self),
+            Indexed::LoneOdd => Some(two(raise(span, &Reach::from(*span))?, *span)),
+            Indexed::Still => Some(pair),
+        }
+    }
+
+    // The span of a channel after the lifting along its samples.
+    fn channel_after(&self, set: &Checked, span: &Span) -> Option<Span>
+        ensures { MadeSpan result (all_fit (channel_made set.now.shape (plain_lift self.now) (plain_steps self.now) (bounds_of span.now))) (channel_after set.now.shape (plain_lift self.now) (plain_steps self.now) (bounds_of span.now)) }
+    {
+        let ends = self.channel_ends(set, span)?;
+        let both = join(&row_at(&ends, 0), &row_at(&ends, 1));
+        Some(join(span, &both))
+    }
+
     // Whether the lifting lists a channel.
     pub(crate) fn lists(&self, channel: usize) -> bool
         ensures { result ≡ lists_channel (plain_lift self.now) channel }
     {
         self.first <= channel && channel < self.first + self.count
     }
-}
 
-// The spans after a lifting along the samples.
-pub(crate) fn along_samples(set: &Checked, lift: &Lift, spans: &SpanList) -> Option<SpanList>
-    requires { lift.now.first + lift.now.count ≤ length (rows_of spans.now) }
-    ensures { MadeList result (all_fit (samples_made set.now.shape (plain_lift lift.now) (plain_steps lift.now) (rows_of spans.now))) (samples_after set.now.shape (plain_lift lift.now) (plain_steps lift.now) (rows_of spans.now)) }
-{
-    gathered(spans.len(), |channel| {
-        let span = row_at(spans, channel);
-        if lift.lists(channel) {
-            channel_after(set, lift, &span)
-        } else {
-            Some(span)
-        }
-    })
+    // The spans after the lifting along the samples.
+    pub(crate) fn along_samples(&self, set: &Checked, spans: &SpanList) -> Option<SpanList>
+        requires { self.now.first + self.now.count ≤ length (rows_of spans.now) }
+        ensures { LiftMakes result (samples_made set.now.shape) (samples_after set.now.shape) self.now (rows_of spans.now) }
+    {
+        gathered(spans.len(), |channel| {
+            let span = row_at(spans, channel);
+            if self.lists(channel) {
+                self.channel_after(set, &span)
+            } else {
+                Some(span)
+            }
+        })
+    }
 }

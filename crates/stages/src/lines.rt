@@ -52,7 +52,7 @@ impl Line {
     pub(crate) fn slot(&self, index: i64) -> usize
         ensures { result ≡ slot_of self.now index }
     {
-        match *self {
+        match self {
             Line::Parities => index.unsigned_abs() as usize % 2,
             Line::Indices(indices) => indices.inside(index),
         }

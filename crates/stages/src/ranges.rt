@@ -1,7 +1,7 @@
 ghost use Rattle.std.specs.Prelude.{◌≡◌, true, ◌≤ℤ◌};
 ghost use Rattle.sets.specs.Sets.{bounds_of, rows_of};
 ghost use Rattle.stages.specs.Ranges.{raised, lowered, hull, fits, at};
-ghost use Rattle.stages.specs.Made.{MadeSpan, between, wide_of};
+ghost use Rattle.stages.specs.Made.{Narrowed, between, wide_of};
 
 use crate::reach::Reach;
 use sets::span::Span;
@@ -10,7 +10,7 @@ use sets::span_list::SpanList;
 // The span of these bounds, unless they are beyond signed 32 bits.
 pub(crate) fn narrowed(least: i64, greatest: i64) -> Option<Span>
     requires { least ≤ℤ greatest }
-    ensures { MadeSpan result (fits (between least greatest)) (between least greatest) }
+    ensures { Narrowed result (between least greatest) }
 {
     Some(Span {
         least: i32::try_from(least).ok()?,
@@ -19,7 +19,7 @@ pub(crate) fn narrowed(least: i64, greatest: i64) -> Option<Span>
 }
 
 pub(crate) fn raise(span: &Span, by: &Reach) -> Option<Span>
-    ensures { MadeSpan result (fits (raised (bounds_of span.now) (wide_of by.now))) (raised (bounds_of span.now) (wide_of by.now)) }
+    ensures { Narrowed result (raised (bounds_of span.now) (wide_of by.now)) }
 {
     narrowed(
         span.least as i64 + by.least,
@@ -28,7 +28,7 @@ pub(crate) fn raise(span: &Span, by: &Reach) -> Option<Span>
 }
 
 pub(crate) fn lower(span: &Span, by: &Reach) -> Option<Span>
-    ensures { MadeSpan result (fits (lowered (bounds_of span.now) (wide_of by.now))) (lowered (bounds_of span.now) (wide_of by.now)) }
+    ensures { Narrowed result (lowered (bounds_of span.now) (wide_of by.now)) }
 {
     raise(span, &by.negated())
 }

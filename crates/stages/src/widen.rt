@@ -1,14 +1,10 @@
 ghost use Rattle.std.specs.Prelude.{◌≡◌, ◌≤◌, length};
 ghost use Rattle.sets.specs.Sets.{rows_of};
-ghost use Rattle.stages.specs.Made.{MadeList};
+ghost use Rattle.stages.specs.Made.{AllNarrowed};
 ghost use Rattle.stages.specs.Plain.{plain};
-ghost use Rattle.stages.specs.Ranges.{all_fit};
 ghost use Rattle.stages.specs.Stages.{first_of, end_of, fits_in, bounds_made, spans_after, spans_refused, Ruled, answered, spans_then};
 
 use crate::checked::Checked;
-use crate::dep_spans::dep_spans;
-use crate::lift_spans::lift_spans;
-use crate::rct_spans::rct_spans;
 use crate::stage::Stage;
 use sets::refusal::Refusal;
 use sets::shape::Shape;
@@ -20,7 +16,7 @@ impl Stage {
     pub fn first(&self) -> usize
         ensures { result ≡ first_of (plain self.now) }
     {
-        match *self {
+        match self {
             Stage::Lift(lift) => lift.first,
             Stage::Dep(dep) => dep.first,
             Stage::Rct(rct) => rct.first,
@@ -32,7 +28,7 @@ impl Stage {
     fn end(&self) -> usize
         ensures { result ≡ end_of (plain self.now) }
     {
-        match *self {
+        match self {
             Stage::Lift(lift) => lift.first + lift.count,
             Stage::Dep(dep) => dep.first + dep.count,
             Stage::Rct(rct) => rct.first + 3,
@@ -49,12 +45,12 @@ impl Stage {
     #[tactic(auto, using(crate::proofs::Plains::rows_count), unfolding(crate::specs::Plain::plain))]
     fn widened(&self, set: &Checked, spans: &SpanList) -> Option<SpanList>
         requires { end_of (plain self.now) ≤ length (rows_of spans.now) }
-        ensures { MadeList result (all_fit (bounds_made set.now.shape (plain self.now) (rows_of spans.now))) (spans_after set.now.shape (plain self.now) (rows_of spans.now)) }
+        ensures { AllNarrowed result (bounds_made set.now.shape (plain self.now) (rows_of spans.now)) (spans_after set.now.shape (plain self.now) (rows_of spans.now)) }
     {
-        match *self {
-            Stage::Lift(lift) => lift_spans(set, &lift, spans),
-            Stage::Dep(dep) => dep_spans(&dep, spans),
-            Stage::Rct(rct) => rct_spans(&rct, spans),
+        match self {
+            Stage::Lift(lift) => lift.spans_after(set, spans),
+            Stage::Dep(dep) => dep.spans_after(spans),
+            Stage::Rct(rct) => rct.spans_after(spans),
         }
     }
 

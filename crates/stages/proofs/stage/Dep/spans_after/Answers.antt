@@ -8,11 +8,11 @@ use Rattle.stages.specs.Ranges.{fits, all_fit}
 use Rattle.stages.proofs.Every.{all_fit_map, every-window, every-shift}
 use Rattle.stages.proofs.Gathers.{gathered_list}
 use Rattle.stages.proofs.Plains.{rows_count}
-use Rattle.stages.proofs.dep_spans.dep_spans.Goals as goal
+use Rattle.stages.proofs.stage.Dep.spans_after.Goals as goal
 
 pub returns : goal.returns
 returns c =
-    let d = c.args.dep.now in
+    let d = c.args.self.now in
     let rows = plain_rows d in
     let bs = rows_of c.args.spans.now in
     let count : d.count ≡ length rows + 1 = rows_count d in
