@@ -12,6 +12,7 @@ pub(crate) fn gathered<F: Fn(usize) -> Option<Span>>(count: usize, row: F) -> Op
 {
     let mut rows = SpanList::new();
     for i in 0..count {
+        // there is room
         let _ = rows.push(row(i)?);
     }
     Some(rows)

@@ -1,4 +1,4 @@
-ghost use Rattle.std.specs.Prelude.{◌≡◌, ◌≤◌};
+ghost use Rattle.std.specs.Prelude.{◌≡◌, ◌≤◌, if◌then◌else◌, Some, None};
 ghost use Rattle.sets.specs.Sets.{rows_of};
 ghost use Rattle.stages.specs.Lifting.{on_line, index_of, line_length, line_spans, line_ends, line_made, channels_after};
 ghost use Rattle.stages.specs.Made.{LiftMakes};
@@ -45,17 +45,16 @@ impl Lift {
         Line::Indices(indices).walk(&along, self)
     }
 
-    // Whether a channel is an index of the line.
-    fn on_line(&self, channel: usize) -> bool
-        ensures { result ≡ on_line (plain_lift self.now) channel }
+    // The index of a channel on the line, if it has one.
+    fn index_of(&self, channel: usize) -> Option<usize>
+        ensures { result ≡ (if on_line (plain_lift self.now) channel then Some (index_of (plain_lift self.now) channel) else None) }
     {
-        self.lists(channel) && channel.saturating_sub(self.first) % (1 << self.level) == 0
-    }
-
-    fn index_of(&self, channel: usize) -> usize
-        ensures { result ≡ index_of (plain_lift self.now) channel }
-    {
-        channel.saturating_sub(self.first) >> self.level
+        let step = 1usize << self.level;
+        if self.lists(channel) && (channel - self.first) % step == 0 {
+            Some((channel - self.first) / step)
+        } else {
+            None
+        }
     }
 
     // The spans after the lifting along the channels.
@@ -65,10 +64,9 @@ impl Lift {
         let ends = self.line_ends(spans)?;
         Some(listed(spans.len(), |channel| {
             let span = row_at(spans, channel);
-            if self.on_line(channel) {
-                join(&span, &row_at(&ends, self.index_of(channel)))
-            } else {
-                span
+            match self.index_of(channel) {
+                Some(index) => join(&span, &row_at(&ends, index)),
+                None => span,
             }
         }))
     }

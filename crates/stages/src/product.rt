@@ -5,6 +5,7 @@ use crate::reach::Reach;
 use sets::span::Span;
 
 // A tap times a sample.
+#[tactic(auto, using(crate::proofs::Products::product_small, crate::proofs::Products::product_back))]
 pub fn product(a: i16, b: i32) -> i64
     ensures value { result ≡ a *ℤ b }
     ensures low { neg_ℤ (pos (2 ^ 46)) ≤ℤ result }
