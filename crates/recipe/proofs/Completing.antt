@@ -1,6 +1,6 @@
 -- The text of lawful stages is read as those stages.
 use Rattle.std.proofs.Common.{◌≡◌, ℕ, zero, suc, ◌+◌, ◌-◌, ◌<◌, ◌≤◌, true, leb, List, [], ◌∷◌, ◌++◌, map, length, ℤ, pos, negsuc, None, Ok, codes, sym, refl, ap, ◌∙◌, subst, append_assoc, arith}
-use Rattle.std.specs.List.{flat_map, AllByRecursion}
+use Rattle.std.specs.List.{list_all, flat_map, AllByRecursion}
 use Rattle.std.specs.Fmt.{signed_decimal}
 use Rattle.std.proofs.ByRecursion.{All-append}
 use Rattle.std.proofs.lemmas.List.{append-nil, map-append, length_push}
@@ -9,7 +9,7 @@ use Rattle.stages.specs.declared.stage.Axis.{Axis}
 use Rattle.stages.specs.declared.stage.Axis.TheVariants.{Time, Channel}
 use Rattle.stages.specs.declared.stage.Extension.{Extension}
 use Rattle.stages.specs.declared.stage.Extension.TheVariants.{Mirrored, Nearest}
-use Rattle.recipe.specs.Fields.{every, is_letter, lines_of, tail_of}
+use Rattle.recipe.specs.Fields.{is_letter, lines_of, tail_of}
 use Rattle.recipe.specs.Grammar.{form_fault, line_fault, taken, begun, read_from, reading, natural}
 use Rattle.stages.specs.Plain.{Plain, PlainStep, PlainRow, PlainLift, lift as a-lift, dep as a-dep, rct as an-rct}
 use Rattle.recipe.specs.Rules.{lift, step, dep, row, rct}
@@ -21,10 +21,10 @@ use Rattle.recipe.proofs.Places.{Place, between, in_lift, in_dep, sofar, stepped
 use Rattle.recipe.proofs.Accepting.{answer}
 
 -- no separator stands in a word
-pub free_word : (s : ℕ) (w : List ℕ) → s < 45 → every is_letter w ≡ true → Free s w
+pub free_word : (s : ℕ) (w : List ℕ) → s < 45 → list_all is_letter w ≡ true → Free s w
 free_word s [] l h = tt
 free_word s (b ∷ bs) l h =
-    let parts = and_parts (is_letter b) (every is_letter bs) h in
+    let parts = and_parts (is_letter b) (list_all is_letter bs) h in
     let low = leb-true 65 b (and_parts (leb 65 b) _ parts.0).0 in
     (ne_eqb b s (λ e. omega arith), free_word s bs l parts.1)
 

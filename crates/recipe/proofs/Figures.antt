@@ -7,12 +7,13 @@ use Rattle.std.proofs.lemmas.Str.Parse.{IsNumeralModel, numerals_by_fold}
 use Rattle.std.proofs.lemmas.Int.{ints}
 use Rattle.std.proofs.lemmas.Bool.{eqb-true, eqb-false, ne_eqb, and_parts, and_from, not-true, not_from_false, cond-true, cond-false, both_ways}
 use Rattle.recipe.specs.declared.fault.Cause.TheVariants.{NotListed, OutsideLimit}
-use Rattle.recipe.specs.Fields.{every, empty, is_digit, is_natural, is_number, is_word, is_zero, leading_zero, read_on, value_of}
+use Rattle.std.specs.List.{list_all}
+use Rattle.recipe.specs.Fields.{empty, is_digit, is_natural, is_number, is_word, is_zero, leading_zero, read_on, value_of}
 use Rattle.recipe.specs.Rules.{listed, between, same, wrong}
 use Rattle.recipe.proofs.Parting.{Free}
 use Rattle.recipe.proofs.Letters.{digit_range}
 
-own : IsNumeralModel (λ ds. every is_digit ds ≡ true) (read_on 0)
+own : IsNumeralModel (λ ds. list_all is_digit ds ≡ true) (read_on 0)
 own = numerals_by_fold _ (search rules) read_on (search rules)
 
 first_zero : (ds : List ℕ) → empty ds ≡ false → leading_zero ds ≡ false → get_or ds 0 0 ≡ 48 → length ds ≡ 1
@@ -26,8 +27,8 @@ some_digits (b ∷ bs) e = omega arith
 
 natural-text : (ds : List ℕ) → is_natural ds ≡ true → read_on 0 ds < 2 ^ 64 → decimal (read_on 0 ds) ≡ ds
 natural-text ds h small =
-    let parts = and_parts (not (empty ds)) (every is_digit ds && not (leading_zero ds)) h in
-    let rest = and_parts (every is_digit ds) (not (leading_zero ds)) parts.1 in
+    let parts = and_parts (not (empty ds)) (list_all is_digit ds && not (leading_zero ds)) h in
+    let rest = and_parts (list_all is_digit ds) (not (leading_zero ds)) parts.1 in
     let some = not-true (empty ds) parts.0 in
     decimal-digits_value own ds rest.0 (some_digits ds some) (first_zero ds some (not-true (leading_zero ds) rest.1)) small
 
@@ -70,15 +71,15 @@ not_empty (b ∷ bs) h = refl
 natural-decimal : (n : ℕ) → n < 2 ^ 64 → is_natural (decimal n) ≡ true
 natural-decimal n h =
     and_from (not (empty (decimal n))) _ (not_from_false _ (not_empty (decimal n) (decimal_nonempty n h)))
-    (and_from (every is_digit (decimal n)) _ (digits_decimal own n h) (not_from_false _ (decimal_leading n h)))
+    (and_from (list_all is_digit (decimal n)) _ (digits_decimal own n h) (not_from_false _ (decimal_leading n h)))
 
 -- what begins with a digit has no sign
 unsigned_value : (ds : List ℕ) → is_natural ds ≡ true → (is_number ds ≡ true) × (value_of ds ≡ pos (read_on 0 ds))
 unfolding is_number value_of
 unsigned_value [] h = absurd (both_ways _ refl h)
 unsigned_value (b ∷ bs) h =
-    let digits = (and_parts (every is_digit (b ∷ bs)) _ (and_parts (not (empty (b ∷ bs))) _ h).1).0 in
-    let first = digit_range b (and_parts (is_digit b) (every is_digit bs) digits).0 in
+    let digits = (and_parts (list_all is_digit (b ∷ bs)) _ (and_parts (not (empty (b ∷ bs))) _ h).1).0 in
+    let first = digit_range b (and_parts (is_digit b) (list_all is_digit bs) digits).0 in
     let plain : eqb b 45 ≡ false = ne_eqb b 45 (λ e. omega arith) in
     (cond-false (eqb b 45) _ _ plain ∙ h, cond-false (eqb b 45) _ _ plain)
 
@@ -93,10 +94,10 @@ signed_value (negsuc n) h = (
   ap (λ k. neg_ℤ (pos k)) (digits_value-decimal own (suc n) (omega arith)),
 )
 
-free_digits : (s : ℕ) (ds : List ℕ) → s < 48 → every is_digit ds ≡ true → Free s ds
+free_digits : (s : ℕ) (ds : List ℕ) → s < 48 → list_all is_digit ds ≡ true → Free s ds
 free_digits s [] l h = tt
 free_digits s (b ∷ bs) l h =
-    let parts = and_parts (is_digit b) (every is_digit bs) h in
+    let parts = and_parts (is_digit b) (list_all is_digit bs) h in
     let low = (digit_range b parts.0).0 in
     (ne_eqb b s (λ e. omega arith), free_digits s bs l parts.1)
 

@@ -1,42 +1,33 @@
 -- Words and numbers by their bytes.
-use Rattle.std.proofs.Common.{◌≡◌, ℕ, zero, suc, ◌+◌, ◌<◌, ◌≤◌, Bool, true, false, not, ◌&&◌, eqb, leb, List, [], ◌∷◌, length, get_or, drop, sym, refl, ap, ◌∙◌, arith}
-use Rattle.std.proofs.lemmas.List.{nil_from_length, at_drop_more}
-use Rattle.std.proofs.lemmas.Bool.{and_left, and_right, and_parts, not_from_true, lt-leb, leb-true, eq-eqb, ne_eqb, cond-true, cond-false, both_ways}
-use Rattle.recipe.specs.Fields.{every, is_letter, is_digit, is_word, is_natural, is_number, is_zero}
-
--- a byte that fails is enough
-pub every-not : (p : ℕ → Bool) (bs : List ℕ) (i : ℕ) → i < length bs → p (get_or bs i 0) ≡ false → every p bs ≡ false
-every-not p [] i h out = absurd (omega arith)
-every-not p (b ∷ bs) zero h out = and_left (p b) (every p bs) out
-every-not p (b ∷ bs) (suc i) h out = and_right (p b) (every p bs) (every-not p bs i (omega arith) out)
-
--- one byte more that passes
-pub every_more : (p : ℕ → Bool) (bs : List ℕ) (i : ℕ) → i < length bs → p (get_or bs i 0) ≡ true → every p (drop i bs) ≡ every p bs → every p (drop (i + 1) bs) ≡ every p bs
-every_more p bs i h passes before = sym (at_drop_more (every p) bs i 0 h ∙ ap (λ t. t && every p (drop (i + 1) bs)) passes) ∙ before
-
-pub outside_below : (low high b : ℕ) → b < low → (leb low b && leb b high) ≡ false
-outside_below low high b h = and_left _ _ (lt-leb low b h)
-
-pub outside_above : (low high b : ℕ) → high < b → (leb low b && leb b high) ≡ false
-outside_above low high b h = and_right (leb low b) _ (lt-leb b high h)
+use Rattle.std.proofs.Common.{◌≡◌, ℕ, ◌<◌, ◌≤◌, Bool, true, false, not, ◌&&◌, eqb, leb, List, [], ◌∷◌, length, get_or, drop, sym, refl, ap, ◌∙◌, arith}
+use Rattle.std.proofs.lemmas.List.{nil_from_length}
+use Rattle.std.proofs.lemmas.Bool.{and_right, and_parts, not_from_true, leb-true, eq-eqb, ne_eqb, cond-true, cond-false, both_ways}
+use Rattle.std.specs.List.{list_all}
+use Rattle.recipe.specs.Fields.{is_letter, is_digit, is_word, is_natural, is_number, is_zero}
 
 pub no_word : (bs : List ℕ) → length bs ≡ 0 → is_word bs ≡ false
 unfolding is_word
 no_word bs e = rw (nil_from_length bs e)
 
-pub word_letters : (bs : List ℕ) → 0 < length bs → is_word bs ≡ every is_letter bs
+pub word_letters : (bs : List ℕ) → 0 < length bs → is_word bs ≡ list_all is_letter bs
 unfolding is_word
 word_letters [] h = absurd (omega arith)
 word_letters (b ∷ bs) h = refl
 
-pub no_number : (bs : List ℕ) → length bs ≡ 0 → is_number bs ≡ false
-unfolding is_number
-no_number bs e = rw (nil_from_length bs e)
+and_true : (x : Bool) → (x && true) ≡ x
+and_true true = refl
+and_true false = refl
 
-pub number-plain : (bs : List ℕ) → 0 < length bs → (get_or bs 0 0 ≡ 45 → ⊥) → is_number bs ≡ is_natural bs
+-- digits that do not begin with a zero, but for the zero alone
+pub natural-digits : (bs : List ℕ) → 0 < length bs → (2 ≤ length bs → get_or bs 0 0 ≡ 48 → ⊥) → is_natural bs ≡ list_all is_digit bs
+natural-digits [] h ne = absurd (omega arith)
+natural-digits (b ∷ []) h ne = and_true (list_all is_digit (b ∷ []))
+natural-digits (b ∷ d ∷ bs) h ne = ap (λ t. list_all is_digit (b ∷ d ∷ bs) && not t) (ne_eqb b 48 (ne (omega arith))) ∙ and_true _
+
+pub number-plain : (bs : List ℕ) → (get_or bs 0 0 ≡ 45 → ⊥) → is_number bs ≡ is_natural bs
 unfolding is_number
-number-plain [] h ne = absurd (omega arith)
-number-plain (b ∷ bs) h ne = cond-false (eqb b 45) _ _ (ne_eqb b 45 ne)
+number-plain [] ne = refl
+number-plain (b ∷ bs) ne = cond-false (eqb b 45) _ _ (ne_eqb b 45 ne)
 
 pub number-signed : (b : ℕ) (bs : List ℕ) → b ≡ 45 → is_number (b ∷ bs) ≡ (is_natural bs && not (is_zero bs))
 unfolding is_number
@@ -52,10 +43,6 @@ not_zero : (bs : List ℕ) → (length bs ≡ 1 → get_or bs 0 0 ≡ 48 → ⊥
 not_zero [] h = refl
 not_zero (b ∷ []) h = ne_eqb b 48 (h refl)
 not_zero (b ∷ c ∷ bs) h = refl
-
-and_true : (x : Bool) → (x && true) ≡ x
-and_true true = refl
-and_true false = refl
 
 pub number-minus : (bs : List ℕ) → get_or bs 0 0 ≡ 45 → (length bs ≡ 2 → get_or bs 1 0 ≡ 48 → ⊥) → is_number bs ≡ is_natural (drop 1 bs)
 number-minus [] e h = absurd (omega arith)
@@ -74,7 +61,7 @@ pub word_no_number : (bs : List ℕ) → is_word bs ≡ true → is_number bs �
 unfolding is_word
 word_no_number [] w n = both_ways false refl w
 word_no_number (b ∷ bs) w n =
-    let l = letter_range b (and_parts (is_letter b) (every is_letter bs) w).0 in
-    let plain : is_natural (b ∷ bs) ≡ true = sym (number-plain (b ∷ bs) (omega arith) (λ e. omega arith)) ∙ n in
-    let d = digit_range b (and_parts (is_digit b) (every is_digit bs) (and_parts _ _ plain).0).0 in
+    let l = letter_range b (and_parts (is_letter b) (list_all is_letter bs) w).0 in
+    let plain : is_natural (b ∷ bs) ≡ true = sym (number-plain (b ∷ bs) (λ e. omega arith)) ∙ n in
+    let d = digit_range b (and_parts (is_digit b) (list_all is_digit bs) (and_parts _ _ plain).0).0 in
     omega arith

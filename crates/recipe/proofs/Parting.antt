@@ -1,34 +1,21 @@
 -- A text cut at a separator and put together again.
 use Rattle.std.proofs.Common.{◌≡◌, ℕ, ◌≤◌, Bool, true, false, cond, eqb, List, [], ◌∷◌, ◌++◌, length, sym, refl, ap, ◌∙◌, append_assoc, arith}
-use Rattle.std.specs.List.{flat_map, AllByRecursion}
+use Rattle.std.specs.List.{flat_map, onto_first, join_with_byte, AllByRecursion}
 use Rattle.std.proofs.ByRecursion.{All-append}
-use Rattle.std.proofs.lemmas.Bool.{eqb-true, cond-true, cond-false, eq-eqb}
-use Rattle.recipe.specs.Fields.{onto, cut, heads, final, lines_of, tail_of, fields_of}
-use Rattle.recipe.specs.Written.{parted, ended}
-use Rattle.recipe.proofs.Cuts.{cut-some}
+use Rattle.std.proofs.lemmas.List.Splits.{length-slice_split, join_with_byte-slice_split}
+use Rattle.std.proofs.lemmas.Bool.{cond-true, cond-false, eq-eqb}
+use Rattle.recipe.specs.Fields.{cut, heads, final, lines_of, tail_of, fields_of}
+use Rattle.recipe.specs.Written.{ended}
 
 -- no byte of a part is the separator
 abbrev pub Free : ℕ → List ℕ → Type 0
 Free s bs = AllByRecursion (λ b. eqb b s ≡ false) bs
 
-parted-onto : (s b : ℕ) (ps : List (List ℕ)) → parted s (onto b ps) ≡ b ∷ parted s ps
-parted-onto s b [] = refl
-parted-onto s b (p ∷ []) = refl
-parted-onto s b (p ∷ q ∷ ps) = refl
+-- there is always a first part
+pub cut-some : (s : ℕ) (bs : List ℕ) → 1 ≤ length (cut s bs)
+cut-some s bs = omega (arith, length-slice_split (λ b. eqb b s) bs)
 
-parted-cons : (s : ℕ) (p : List ℕ) (ps : List (List ℕ)) → 1 ≤ length ps → parted s (p ∷ ps) ≡ p ++ s ∷ parted s ps
-parted-cons s p [] h = absurd (omega arith)
-parted-cons s p (q ∷ ps) h = refl
-
-pub parted-cut : (s : ℕ) (bs : List ℕ) → parted s (cut s bs) ≡ bs
-parted-cut s [] = refl
-parted-cut s (b ∷ bs) = by (eqb b s) refl (parted-cut s bs)
-  where
-    by : (t : Bool) → eqb b s ≡ t → parted s (cut s bs) ≡ bs → parted s (cond t ([] ∷ cut s bs) (onto b (cut s bs))) ≡ b ∷ bs
-    by true e h = parted-cons s [] (cut s bs) (cut-some s bs) ∙ ap (λ x. x ∷ parted s (cut s bs)) (sym (eqb-true b s e)) ∙ ap (λ r. b ∷ r) h
-    by false e h = parted-onto s b (cut s bs) ∙ ap (λ r. b ∷ r) h
-
-free_onto : (s b : ℕ) (ps : List (List ℕ)) → eqb b s ≡ false → AllByRecursion (Free s) ps → AllByRecursion (Free s) (onto b ps)
+free_onto : (s b : ℕ) (ps : List (List ℕ)) → eqb b s ≡ false → AllByRecursion (Free s) ps → AllByRecursion (Free s) (onto_first b ps)
 free_onto s b [] e h = ((e, tt), tt)
 free_onto s b (p ∷ ps) e h = ((e, h.0), h.1)
 
@@ -36,27 +23,27 @@ pub cut-free : (s : ℕ) (bs : List ℕ) → AllByRecursion (Free s) (cut s bs)
 cut-free s [] = (tt, tt)
 cut-free s (b ∷ bs) = by (eqb b s) refl (cut-free s bs)
   where
-    by : (t : Bool) → eqb b s ≡ t → AllByRecursion (Free s) (cut s bs) → AllByRecursion (Free s) (cond t ([] ∷ cut s bs) (onto b (cut s bs)))
+    by : (t : Bool) → eqb b s ≡ t → AllByRecursion (Free s) (cut s bs) → AllByRecursion (Free s) (cond t ([] ∷ cut s bs) (onto_first b (cut s bs)))
     by true e h = (tt, h)
     by false e h = free_onto s b (cut s bs) e h
 
 -- a part before its separator is cut off
 pub cut-part : (s : ℕ) (p r : List ℕ) → Free s p → cut s (p ++ s ∷ r) ≡ p ∷ cut s r
 cut-part s [] r h = cond-true (eqb s s) _ _ (eq-eqb s s refl)
-cut-part s (b ∷ p) r h = cond-false (eqb b s) _ _ h.0 ∙ ap (onto b) (cut-part s p r h.1)
+cut-part s (b ∷ p) r h = cond-false (eqb b s) _ _ h.0 ∙ ap (onto_first b) (cut-part s p r h.1)
 
 cut-whole : (s : ℕ) (p : List ℕ) → Free s p → cut s p ≡ p ∷ []
 cut-whole s [] h = refl
-cut-whole s (b ∷ p) h = cond-false (eqb b s) _ _ h.0 ∙ ap (onto b) (cut-whole s p h.1)
+cut-whole s (b ∷ p) h = cond-false (eqb b s) _ _ h.0 ∙ ap (onto_first b) (cut-whole s p h.1)
 
-pub cut-parted : (s : ℕ) (p : List ℕ) (ps : List (List ℕ)) → AllByRecursion (Free s) (p ∷ ps) → cut s (parted s (p ∷ ps)) ≡ p ∷ ps
+pub cut-parted : (s : ℕ) (p : List ℕ) (ps : List (List ℕ)) → AllByRecursion (Free s) (p ∷ ps) → cut s (join_with_byte s (p ∷ ps)) ≡ p ∷ ps
 cut-parted s p [] h = cut-whole s p h.0
-cut-parted s p (q ∷ ps) h = cut-part s p (parted s (q ∷ ps)) h.0 ∙ ap (λ r. p ∷ r) (cut-parted s q ps h.1)
+cut-parted s p (q ∷ ps) h = cut-part s p (join_with_byte s (q ∷ ps)) h.0 ∙ ap (λ r. p ∷ r) (cut-parted s q ps h.1)
 
-pub free_parted : (s c : ℕ) (ps : List (List ℕ)) → eqb c s ≡ false → AllByRecursion (Free s) ps → Free s (parted c ps)
+pub free_parted : (s c : ℕ) (ps : List (List ℕ)) → eqb c s ≡ false → AllByRecursion (Free s) ps → Free s (join_with_byte c ps)
 free_parted s c [] e h = tt
 free_parted s c (p ∷ []) e h = h.0
-free_parted s c (p ∷ q ∷ ps) e h = All-append (λ b. eqb b s ≡ false) p (c ∷ parted c (q ∷ ps)) h.0 (e, free_parted s c (q ∷ ps) e h.1)
+free_parted s c (p ∷ q ∷ ps) e h = All-append (λ b. eqb b s ≡ false) p (c ∷ join_with_byte c (q ∷ ps)) h.0 (e, free_parted s c (q ∷ ps) e h.1)
 
 pub heads-cons : (p : List ℕ) (ps : List (List ℕ)) → 1 ≤ length ps → heads (p ∷ ps) ≡ p ∷ heads ps
 heads-cons p [] h = absurd (omega arith)
@@ -71,7 +58,7 @@ free_heads s [] h = tt
 free_heads s (p ∷ []) h = tt
 free_heads s (p ∷ q ∷ ps) h = (h.0, free_heads s (q ∷ ps) h.1)
 
-parted-heads : (ps : List (List ℕ)) → parted 10 ps ≡ flat_map ended (heads ps) ++ final ps
+parted-heads : (ps : List (List ℕ)) → join_with_byte 10 ps ≡ flat_map ended (heads ps) ++ final ps
 parted-heads [] = refl
 parted-heads (p ∷ []) = refl
 parted-heads (p ∷ q ∷ ps) =
@@ -82,7 +69,7 @@ parted-heads (p ∷ q ∷ ps) =
 -- a text is its lines and what follows the last line feed
 pub text_lines : (text : List ℕ) → text ≡ flat_map ended (lines_of text) ++ tail_of text
 unfolding lines_of tail_of
-text_lines text = sym (parted-cut 10 text) ∙ parted-heads (cut 10 text)
+text_lines text = sym (join_with_byte-slice_split 10 text) ∙ parted-heads (cut 10 text)
 
 pub free_lines : (text : List ℕ) → AllByRecursion (Free 10) (lines_of text)
 unfolding lines_of
@@ -108,11 +95,11 @@ tail_last [] more h = refl
 tail_last (l ∷ ls) more h = ap tail_of (joined_cons l ls more) ∙ tail_first l (flat_map ended ls ++ more) h.0 ∙ tail_last ls more h.1
 
 -- a line is its fields parted by commas
-pub line-fields : (line : List ℕ) → parted 44 (fields_of line) ≡ line
+pub line-fields : (line : List ℕ) → join_with_byte 44 (fields_of line) ≡ line
 unfolding fields_of
-line-fields line = parted-cut 44 line
+line-fields line = join_with_byte-slice_split 44 line
 
-pub fields_line : (fs : List (List ℕ)) → 1 ≤ length fs → AllByRecursion (Free 44) fs → fields_of (parted 44 fs) ≡ fs
+pub fields_line : (fs : List (List ℕ)) → 1 ≤ length fs → AllByRecursion (Free 44) fs → fields_of (join_with_byte 44 fs) ≡ fs
 unfolding fields_of
 fields_line [] some h = absurd (omega arith)
 fields_line (f ∷ fs) some h = cut-parted 44 f fs h

@@ -1,5 +1,5 @@
 -- The text of a report by its first line and what follows.
-use Rattle.std.proofs.Common.{◌≡◌, ℕ, ◌+◌, ◌<◌, ◌≤◌, leb, List, ◌∷◌, length, get_or, take, drop, Some, None, Ok, Err, codes, Result, sym, refl, ap, ◌∙◌}
+use Rattle.std.proofs.Common.{◌≡◌, ℕ, ◌<◌, ◌≤◌, leb, List, ◌∷◌, length, Some, None, Ok, Err, codes, Result, sym, refl, ap, ◌∙◌}
 use Rattle.std.proofs.lemmas.Bool.{cond-true, cond-false, le-leb, lt-leb}
 use Rattle.recipe.specs.declared.fault.Cause.TheVariants.{EndsInside, TooLong}
 use Rattle.recipe.specs.declared.fault.Fault.{Fault}
@@ -7,12 +7,10 @@ use Rattle.recipe.specs.declared.request.Request.{Request}
 use Rattle.recipe.specs.Fields.{fields_of, lines_of, tail_of}
 use Rattle.recipe.specs.Grammar.{begun, read_from}
 use Rattle.stages.specs.Plain.{Plain}
-use Rattle.recipe.specs.Promises.{headed}
+use Rattle.recipe.specs.Promises.{FirstLine, NoLine, headed}
 use Rattle.recipe.specs.Replies.{Answers, answered}
 use Rattle.recipe.specs.Requests.{PlainRequest, set_fault, asked, request_from, requested}
 use Rattle.recipe.specs.Rules.{set}
-use Rattle.recipe.proofs.Cuts.{Free}
-use Rattle.recipe.proofs.Texts.{lines_more, tail_more, lines_none}
 
 pub too_long : (t : List ℕ) → 65536 < length t → requested t ≡ Err (record { cause = TooLong; line = 0; field = 0 })
 unfolding requested
@@ -22,8 +20,8 @@ short : (t : List ℕ) → length t ≤ 65536 → requested t ≡ request_from (
 unfolding requested
 short t h = cond-true (leb (length t) 65536) _ _ (le-leb (length t) 65536 h)
 
-pub no_line : (t : List ℕ) → length t ≤ 65536 → Free 10 t (length t) → requested t ≡ Err (record { cause = EndsInside; line = 1; field = 0 })
-no_line t h free = short t h ∙ ap (λ ls. request_from ls (tail_of t)) (lines_none t free begun 1)
+pub no_line : (t : List ℕ) → length t ≤ 65536 → NoLine t → requested t ≡ Err (record { cause = EndsInside; line = 1; field = 0 })
+no_line t h none = short t h ∙ ap (λ ls. request_from ls (tail_of t)) none.lines
 
 set_headed : (fs : List (List ℕ)) → headed (codes "SET") set 1 fs ≡ set_fault fs
 unfolding set_fault
@@ -35,15 +33,15 @@ wrong-set l ls tail f e = rw (e, request_from)
 right_set : (l : List ℕ) (ls : List (List ℕ)) (tail : List ℕ) → set_fault (fields_of l) ≡ None → request_from (l ∷ ls) tail ≡ asked (fields_of l) (read_from begun 2 ls tail)
 right_set l ls tail e = rw (e, request_from)
 
-module _ (t : List ℕ) (few : length t ≤ 65536) (j : ℕ) (h : j < length t) (free : Free 10 t j) (found : get_or t j 0 ≡ 10) where
-  parted : requested t ≡ request_from (take j t ∷ lines_of (drop (j + 1) t)) (tail_of (drop (j + 1) t))
-  parted = short t few ∙ ap (λ ls. request_from ls (tail_of t)) (lines_more t j h free found) ∙ ap (request_from (take j t ∷ lines_of (drop (j + 1) t))) (tail_more t j h free found)
+module _ (t line more : List ℕ) (few : length t ≤ 65536) (first : FirstLine t line more) where
+  split : requested t ≡ request_from (line ∷ lines_of more) (tail_of more)
+  split = short t few ∙ ap (λ ls. request_from ls (tail_of t)) first.lines ∙ ap (request_from (line ∷ lines_of more)) first.tail
 
-  pub set_wrong : (f : Fault) → headed (codes "SET") set 1 (fields_of (take j t)) ≡ Some f → requested t ≡ Err f
-  set_wrong f e = parted ∙ wrong-set (take j t) _ _ f (sym (set_headed _) ∙ e)
+  pub set_wrong : (f : Fault) → headed (codes "SET") set 1 (fields_of line) ≡ Some f → requested t ≡ Err f
+  set_wrong f e = split ∙ wrong-set line _ _ f (sym (set_headed _) ∙ e)
 
-  pub set_right : headed (codes "SET") set 1 (fields_of (take j t)) ≡ None → requested t ≡ asked (fields_of (take j t)) (read_from begun 2 (lines_of (drop (j + 1) t)) (tail_of (drop (j + 1) t)))
-  set_right e = parted ∙ right_set (take j t) _ _ (sym (set_headed _) ∙ e)
+  pub set_right : headed (codes "SET") set 1 (fields_of line) ≡ None → requested t ≡ asked (fields_of line) (read_from begun 2 (lines_of more) (tail_of more))
+  set_right e = split ∙ right_set line _ _ (sym (set_headed _) ∙ e)
 
 -- what the answer to a text says of the text
 pub answers_err : (o : Result (List Plain) Fault) (f : Fault) (held : List Plain) → Answers o (Err f) held → o ≡ Err f

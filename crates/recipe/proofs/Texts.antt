@@ -1,15 +1,17 @@
 -- The reading of a text, line by line, as a search for the next line feed finds them.
-use Rattle.std.proofs.Common.{◌≡◌, ℕ, ◌+◌, ◌<◌, false, cond, ◌&&◌, eqb, List, [], ◌∷◌, length, get_or, take, drop, Some, None, Ok, Err, Result, sym, refl, ap, ◌∙◌, subst}
-use Rattle.std.proofs.lemmas.List.{nil_from_length}
-use Rattle.std.proofs.lemmas.Bool.{cond-true, cond-false, and_left, and_right, eq-eqb, ne_eqb}
+use Rattle.std.proofs.Common.{◌≡◌, ℕ, ◌+◌, ◌<◌, ◌≤◌, Bool, true, false, not, ltb, cond, ◌&&◌, eqb, List, [], ◌∷◌, length, take, drop, Some, None, Ok, Err, Result, sym, refl, ap, ◌∙◌, subst, arith}
+use Rattle.std.proofs.lemmas.List.{nil_from_length, length-drop}
+use Rattle.std.proofs.lemmas.List.Splits.{slice_split_first}
+use Rattle.std.specs.List.{onto_first, position, position_or_len, prefix_len}
+use Rattle.std.proofs.lemmas.Bool.{ltb-true, ltb-false, cond-true, cond-false, eq-eqb, ne_eqb}
 use Rattle.recipe.specs.declared.fault.Cause.TheVariants.{EndsInside}
 use Rattle.recipe.specs.declared.fault.Fault.{Fault}
 use Rattle.recipe.specs.Fields.{cut, heads, final, lines_of, tail_of, fields_of, empty}
 use Rattle.recipe.specs.Grammar.{Sofar, line_fault, taken, read_from}
 use Rattle.stages.specs.Plain.{Plain}
-use Rattle.recipe.specs.Promises.{Reads}
-use Rattle.recipe.proofs.Cuts.{Free, cut_at, cut-none, cut-some}
-use Rattle.recipe.proofs.Parting.{heads-cons, final-cons}
+use Rattle.recipe.specs.Promises.{FirstLine, NoLine, Reads}
+use Rattle.recipe.proofs.Faults.{some_from_cond, none_from_cond}
+use Rattle.recipe.proofs.Parting.{cut-some, heads-cons, final-cons}
 
 past-line : (s : Sofar) (line : ℕ) (l : List ℕ) (ls : List (List ℕ)) (tail : List ℕ) → line_fault s line (fields_of l) ≡ None → read_from s line (l ∷ ls) tail ≡ read_from (taken s (fields_of l)) (line + 1) ls tail
 unfolding read_from
@@ -19,51 +21,61 @@ at-line : (s : Sofar) (line : ℕ) (l : List ℕ) (ls : List (List ℕ)) (tail :
 unfolding read_from
 at-line s line l ls tail f e = rw (e, read_from)
 
--- a text with a line feed at j, and none before
-module _ (t : List ℕ) (j : ℕ) (h : j < length t) (free : Free 10 t j) (found : get_or t j 0 ≡ 10) where
-  pub lines_more : lines_of t ≡ take j t ∷ lines_of (drop (j + 1) t)
-  unfolding lines_of
-  lines_more = ap heads (cut_at 10 t j h free found) ∙ heads-cons (take j t) (cut 10 (drop (j + 1) t)) (cut-some 10 (drop (j + 1) t))
+-- where the search for a line feed ends
+pub line-found : (t : List ℕ) (i : ℕ) → Some i ≡ position (λ b. eqb b 10) t → FirstLine t (take i t) (drop (i + 1) t)
+unfolding lines_of tail_of
+line-found t i e =
+    let p = some_from_cond (ltb (position_or_len (λ b. eqb b 10) t) (length t)) i _ e in
+    let h : i < length t = omega (arith, ltb-true _ _ p.0, p.1) in
+    let cuts : cut 10 t ≡ take i t ∷ cut 10 (drop (i + 1) t) = rw p.1 (slice_split_first (λ b. eqb b 10) t 0 (ltb-true _ _ p.0)) in
+    record {
+      lines = ap heads cuts ∙ heads-cons _ (cut 10 (drop (i + 1) t)) (cut-some 10 (drop (i + 1) t));
+      tail = ap final cuts ∙ final-cons _ (cut 10 (drop (i + 1) t)) (cut-some 10 (drop (i + 1) t));
+      shorter = simp length-drop (omega arith);
+    }
 
-  pub tail_more : tail_of t ≡ tail_of (drop (j + 1) t)
-  unfolding tail_of
-  tail_more = ap final (cut_at 10 t j h free found) ∙ final-cons (take j t) (cut 10 (drop (j + 1) t)) (cut-some 10 (drop (j + 1) t))
+pub line-none : (t : List ℕ) → None ≡ position (λ b. eqb b 10) t → NoLine t
+unfolding lines_of tail_of
+line-none t e =
+    let cuts = uncut t (ltb-false _ _ (none_from_cond (ltb (position_or_len (λ b. eqb b 10) t) (length t)) _ e)) in
+    record { lines = ap heads cuts; tail = ap final cuts }
+  where
+    uncut : (t : List ℕ) → length t ≤ position_or_len (λ b. eqb b 10) t → cut 10 t ≡ t ∷ []
+    uncut [] h = refl
+    uncut (b ∷ bs) h = by (eqb b 10) refl (λ k. uncut bs k)
+      where
+        by : (x : Bool) → eqb b 10 ≡ x → (length bs ≤ position_or_len (λ b. eqb b 10) bs → cut 10 bs ≡ bs ∷ []) → cut 10 (b ∷ bs) ≡ (b ∷ bs) ∷ []
+        by true q more = let z = ap (λ y. cond (not y) (1 + prefix_len (λ b. not (eqb b 10)) bs) 0) q in absurd (omega arith)
+        by false q more =
+            let z = ap (λ y. cond (not y) (1 + prefix_len (λ b. not (eqb b 10)) bs) 0) q in
+            cond-false _ _ _ q ∙ ap (onto_first b) (more (omega arith))
 
-  split : (s : Sofar) (line : ℕ) → read_from s line (lines_of t) (tail_of t) ≡ read_from s line (take j t ∷ lines_of (drop (j + 1) t)) (tail_of (drop (j + 1) t))
-  split s line = ap (λ ls. read_from s line ls (tail_of t)) lines_more ∙ ap (read_from s line (take j t ∷ lines_of (drop (j + 1) t))) tail_more
+-- a text with a first line
+module _ (t line more : List ℕ) (first : FirstLine t line more) (s : Sofar) (number : ℕ) where
+  split : read_from s number (lines_of t) (tail_of t) ≡ read_from s number (line ∷ lines_of more) (tail_of more)
+  split = ap (λ ls. read_from s number ls (tail_of t)) first.lines ∙ ap (read_from s number (line ∷ lines_of more)) first.tail
 
-  pub read_next : (s : Sofar) (line : ℕ) → line_fault s line (fields_of (take j t)) ≡ None → read_from s line (lines_of t) (tail_of t) ≡ read_from (taken s (fields_of (take j t))) (line + 1) (lines_of (drop (j + 1) t)) (tail_of (drop (j + 1) t))
-  read_next s line e = split s line ∙ past-line s line (take j t) _ _ e
+  pub read_next : line_fault s number (fields_of line) ≡ None → read_from s number (lines_of t) (tail_of t) ≡ read_from (taken s (fields_of line)) (number + 1) (lines_of more) (tail_of more)
+  read_next e = split ∙ past-line s number line _ _ e
 
-  pub read_fault : (s : Sofar) (line : ℕ) (f : Fault) → line_fault s line (fields_of (take j t)) ≡ Some f → read_from s line (lines_of t) (tail_of t) ≡ Err f
-  read_fault s line f e = split s line ∙ at-line s line (take j t) _ _ f e
+  pub read_fault : (f : Fault) → line_fault s number (fields_of line) ≡ Some f → read_from s number (lines_of t) (tail_of t) ≡ Err f
+  read_fault f e = split ∙ at-line s number line _ _ f e
 
 -- a text without a line feed
-module _ (t : List ℕ) (free : Free 10 t (length t)) (s : Sofar) (line : ℕ) where
-  pub lines_none : lines_of t ≡ []
-  unfolding lines_of
-  lines_none = ap heads (cut-none 10 t free)
-
-  tail_none : tail_of t ≡ t
-  unfolding tail_of
-  tail_none = ap final (cut-none 10 t free)
-
+module _ (t : List ℕ) (none : NoLine t) (s : Sofar) (line : ℕ) where
   ended : read_from s line (lines_of t) (tail_of t) ≡ cond (empty t && eqb s.left 0) (Ok s.stages) (Err (record { cause = EndsInside; line = line; field = 0 }))
   unfolding read_from
-  ended = ap (λ ls. read_from s line ls (tail_of t)) lines_none ∙ ap (read_from s line []) tail_none
+  ended = ap (λ ls. read_from s line ls (tail_of t)) none.lines ∙ ap (read_from s line []) none.tail
 
   pub read_done : length t ≡ 0 → s.left ≡ 0 → read_from s line (lines_of t) (tail_of t) ≡ Ok s.stages
   read_done e z = ended ∙ ap (λ t. cond (empty t && eqb s.left 0) (Ok s.stages) (Err (record { cause = EndsInside; line = line; field = 0 }))) (nil_from_length t e) ∙ cond-true _ _ _ (eq-eqb s.left 0 z)
 
-  pub read_due : (s.left ≡ 0 → ⊥) → read_from s line (lines_of t) (tail_of t) ≡ Err (record { cause = EndsInside; line = line; field = 0 })
-  read_due ne = ended ∙ cond-false _ _ _ (and_right (empty t) _ (ne_eqb s.left 0 ne))
-
-  pub read_tail : (length t ≡ 0 → ⊥) → read_from s line (lines_of t) (tail_of t) ≡ Err (record { cause = EndsInside; line = line; field = 0 })
-  read_tail ne = ended ∙ cond-false _ _ _ (and_left (empty t) _ (not_empty t ne))
+  pub read_short : (length t ≡ 0 → s.left ≡ 0 → ⊥) → read_from s line (lines_of t) (tail_of t) ≡ Err (record { cause = EndsInside; line = line; field = 0 })
+  read_short ne = ended ∙ cond-false _ _ _ (short t ne)
     where
-      not_empty : (t : List ℕ) → (length t ≡ 0 → ⊥) → empty t ≡ false
-      not_empty [] ne = absurd (ne refl)
-      not_empty (b ∷ bs) ne = refl
+      short : (t : List ℕ) → (length t ≡ 0 → s.left ≡ 0 → ⊥) → (empty t && eqb s.left 0) ≡ false
+      short [] ne = ne_eqb s.left 0 (ne refl)
+      short (b ∷ bs) ne = refl
 
 -- a fault that is passed on
 pub reads_err : (o : Result (List Plain) Fault) (held : List Plain) (r : Result Unit Fault) (f : Fault) → (x : Fault) × (r ≡ Err x) × (x ≡ f) → o ≡ Err f → Reads o held r

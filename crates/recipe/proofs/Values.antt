@@ -1,49 +1,49 @@
 -- The number that digits write, and its value with a sign.
-use Rattle.std.proofs.Common.{◌≡◌, ℕ, zero, suc, ◌+◌, ◌-◌, ◌*◌, ◌<◌, ◌≤◌, min, true, false, not, eqb, List, [], ◌∷◌, ◌++◌, length, get_or, take, drop, pos, neg_ℤ, sym, refl, ap, ◌∙◌, arith}
-use Rattle.std.proofs.lemmas.List.{take_more}
-use Rattle.std.proofs.lemmas.Bool.{and_parts, both_ways, cond-true, cond-false, eq-eqb, ne_eqb}
-use Rattle.recipe.specs.Fields.{every, empty, is_digit, is_natural, is_number, read_on, value_of}
+use Rattle.std.proofs.Common.{◌≡◌, ℕ, zero, suc, ◌+◌, ◌-◌, ◌*◌, min, true, false, eqb, List, [], ◌∷◌, get_or, drop, ℤ, pos, negsuc, neg_ℤ, Bool, false, cond, Some, None, Ok, Err, Result, w32, SFits, rules, sym, refl, ap, ◌∙◌, arith}
+use Rattle.std.proofs.lemmas.Bool.{cond-true, cond-false, eq-eqb, ne_eqb}
+use Rattle.std.specs.List.{fold}
+use Rattle.std.specs.Int.Signed.{le_z}
+use Rattle.std.specs.Bool.{then_some}
+use Rattle.std.specs.Result.{OkIff, result_ok}
+use Rattle.std.specs.Ordering.{int_cmp, is_le}
+use Rattle.std.proofs.lemmas.Int.{ints}
+use Rattle.recipe.specs.Fields.{read_on, value_of}
 use Rattle.recipe.specs.Promises.{capped}
-use Rattle.recipe.proofs.Letters.{digit_range, number-plain, number-signed}
 
-read_on_push : (n : ℕ) (bs : List ℕ) (b : ℕ) → read_on n (bs ++ b ∷ []) ≡ read_on n bs * 10 + (b - 48)
-read_on_push n [] b = refl
-read_on_push n (a ∷ bs) b = read_on_push (n * 10 + (a - 48)) bs b
+-- a number that is cut off after each digit
+pub cut_off : (n : ℕ) (bs : List ℕ) → fold (λ m b. min (min (m * 10) 4294967295 + (b - 48)) 4294967295) (min n 4294967295) bs ≡ min (read_on n bs) 4294967295
+cut_off n [] = refl
+cut_off n (b ∷ bs) =
+    let e : min (min (min n 4294967295 * 10) 4294967295 + (b - 48)) 4294967295 ≡ min (n * 10 + (b - 48)) 4294967295 = omega arith in
+    ap (λ m. fold (λ m b. min (min (m * 10) 4294967295 + (b - 48)) 4294967295) m bs) e ∙ cut_off (n * 10 + (b - 48)) bs
 
--- one digit more
-pub read_on_more : (bs : List ℕ) (i : ℕ) → i < length bs → read_on 0 (take (i + 1) bs) ≡ read_on 0 (take i bs) * 10 + (get_or bs i 0 - 48)
-read_on_more bs i h = ap (read_on 0) (take_more bs i 0 h) ∙ read_on_push 0 (take i bs) (get_or bs i 0)
-
-pub digit_at : (bs : List ℕ) (i : ℕ) → i < length bs → every is_digit bs ≡ true → (48 ≤ get_or bs i 0) × (get_or bs i 0 ≤ 57)
-digit_at [] i h all = absurd (omega arith)
-digit_at (b ∷ bs) zero h all = digit_range b (and_parts (is_digit b) (every is_digit bs) all).0
-digit_at (b ∷ bs) (suc i) h all = digit_at bs i (omega arith) (and_parts (is_digit b) (every is_digit bs) all).1
-
-pub number-some : (bs : List ℕ) → is_number bs ≡ true → 0 < length bs
-unfolding is_number
-number-some [] n = absurd (both_ways false refl n)
-number-some (b ∷ bs) n = omega arith
-
-natural-digits : (bs : List ℕ) → is_natural bs ≡ true → every is_digit bs ≡ true
-natural-digits bs n = (and_parts (every is_digit bs) _ (and_parts (not (empty bs)) _ n).1).0
-
-pub digits_plain : (bs : List ℕ) → is_number bs ≡ true → (get_or bs 0 0 ≡ 45 → ⊥) → every is_digit bs ≡ true
-digits_plain bs n ne = natural-digits bs (sym (number-plain bs (number-some bs n) ne) ∙ n)
-
-pub digits_behind : (bs : List ℕ) → is_number bs ≡ true → get_or bs 0 0 ≡ 45 → every is_digit (drop 1 bs) ≡ true
-digits_behind [] n e = refl
-digits_behind (b ∷ bs) n e = natural-digits bs (and_parts (is_natural bs) _ (sym (number-signed b bs e) ∙ n)).0
-
-capped-minus : (n : ℕ) → capped (neg_ℤ (pos n)) ≡ neg_ℤ (pos (min n 10000000000))
+capped-minus : (n : ℕ) → capped (neg_ℤ (pos n)) ≡ neg_ℤ (pos (min n 4294967295))
 capped-minus zero = refl
-capped-minus (suc n) = let e : min (suc n) 10000000000 ≡ suc (min n 9999999999) = omega arith in sym (ap (λ m. neg_ℤ (pos m)) e)
+capped-minus (suc n) = let e : min (suc n) 4294967295 ≡ suc (min n 4294967294) = omega arith in sym (ap (λ m. neg_ℤ (pos m)) e)
 
-pub capped-signed : (bs : List ℕ) → get_or bs 0 0 ≡ 45 → capped (value_of bs) ≡ neg_ℤ (pos (min (read_on 0 (drop 1 bs)) 10000000000))
+pub capped-signed : (bs : List ℕ) → get_or bs 0 0 ≡ 45 → capped (value_of bs) ≡ neg_ℤ (pos (min (read_on 0 (drop 1 bs)) 4294967295))
 unfolding value_of
 capped-signed [] e = absurd (omega arith)
 capped-signed (b ∷ bs) e = ap capped (cond-true (eqb b 45) _ _ (eq-eqb b 45 e)) ∙ capped-minus (read_on 0 bs)
 
-pub capped-plain : (bs : List ℕ) → (get_or bs 0 0 ≡ 45 → ⊥) → capped (value_of bs) ≡ pos (min (read_on 0 bs) 10000000000)
+pub capped-plain : (bs : List ℕ) → (get_or bs 0 0 ≡ 45 → ⊥) → capped (value_of bs) ≡ pos (min (read_on 0 bs) 4294967295)
 unfolding value_of
 capped-plain [] ne = refl
 capped-plain (b ∷ bs) ne = ap capped (cond-false (eqb b 45) _ _ (ne_eqb b 45 ne))
+
+-- the order of integers as a test
+pub at_most : (x y : ℤ) → is_le (int_cmp x y) ≡ le_z x y
+at_most x y = grind (arith, ints)
+
+-- a value that fits was not cut off
+pub whole : (z v : ℤ) → v ≡ capped z → SFits w32 v → v ≡ z
+whole (pos n) v e fits = omega (arith, ints)
+whole (negsuc n) v e fits = omega (arith, ints)
+
+pub converted : {E : Type 0} (r : Result ℤ E) (z v : ℤ) → OkIff r (SFits w32 z) z → Some v ≡ result_ok r → SFits w32 v × (v ≡ z)
+converted (Ok x) z v h e = search rules
+converted (Err x) z v h e = absurd (search rules)
+
+pub chosen : (t : Bool) (v : ℤ) → then_some t v ≡ cond t (Some v) None
+chosen true v = refl
+chosen false v = refl

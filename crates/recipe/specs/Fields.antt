@@ -1,17 +1,12 @@
 -- A text as lines, a line as fields, and the kinds of field.
 use Rattle.std.specs.Prelude.{◌≡◌, ℕ, ◌+◌, ◌-◌, ◌*◌, Bool, true, false, cond, not, ◌&&◌, List, [], ◌∷◌, ℤ, pos, neg_ℤ, ◌==◌, nat_le}
+use Rattle.std.specs.List.{list_all, slice_split}
 use Rattle.recipe.specs.declared.field.Field.{Field}
 use Rattle.recipe.specs.declared.field.Field.TheVariants.{Empty, Word, Number, Other}
 
--- a byte put before the first part
-abbrev pub onto : ℕ → List (List ℕ) → List (List ℕ)
-onto b [] = (b ∷ []) ∷ []
-onto b (p ∷ ps) = (b ∷ p) ∷ ps
-
 -- the parts of a text between separators; there is always at least one
 abbrev pub cut : ℕ → List ℕ → List (List ℕ)
-cut s [] = [] ∷ []
-cut s (b ∷ bs) = cond (b == s) ([] ∷ cut s bs) (onto b (cut s bs))
+cut s bs = slice_split (λ b. b == s) bs
 
 -- all parts but the last
 abbrev pub heads : List (List ℕ) → List (List ℕ)
@@ -36,11 +31,6 @@ tail_of text = final (cut 10 text)
 unfoldable pub fields_of : List ℕ → List (List ℕ)
 fields_of line = cut 44 line
 
--- every byte passes
-abbrev pub every : (ℕ → Bool) → List ℕ → Bool
-every p [] = true
-every p (b ∷ bs) = p b && every p bs
-
 abbrev pub empty : List ℕ → Bool
 empty [] = true
 empty (b ∷ bs) = false
@@ -53,7 +43,7 @@ is_digit b = nat_le 48 b && nat_le b 57
 
 -- one or more letters A to Z
 unfoldable pub is_word : List ℕ → Bool
-is_word bs = not (empty bs) && every is_letter bs
+is_word bs = not (empty bs) && list_all is_letter bs
 
 -- a zero in front of other digits
 abbrev pub leading_zero : List ℕ → Bool
@@ -63,7 +53,7 @@ leading_zero (b ∷ c ∷ bs) = b == 48
 
 -- digits, at least one, with no leading zero
 abbrev pub is_natural : List ℕ → Bool
-is_natural bs = not (empty bs) && (every is_digit bs && not (leading_zero bs))
+is_natural bs = not (empty bs) && (list_all is_digit bs && not (leading_zero bs))
 
 -- just the digit 0
 abbrev pub is_zero : List ℕ → Bool

@@ -6,16 +6,27 @@ use Rattle.recipe.specs.declared.begun.Begun.{Begun}
 use Rattle.recipe.specs.declared.fault.Cause.TheVariants.{FieldCount, WordDue}
 use Rattle.recipe.specs.declared.fault.Fault.{Fault}
 use Rattle.recipe.specs.declared.line.Line.{Line}
-use Rattle.recipe.specs.Fields.{fields_of}
+use Rattle.recipe.specs.Fields.{fields_of, lines_of, tail_of}
 use Rattle.recipe.specs.Grammar.{at_hand, fault_at, line_fault, taken}
 use Rattle.stages.specs.Plain.{Plain, plain, lift as a-lift, dep as a-dep, rct as an-rct}
 use Rattle.recipe.specs.Requests.{shape_from, span_from}
 use Rattle.recipe.specs.Rules.{Form, Rule, same, field, has_fields, first_wrong, rules_of}
 
--- a value whose magnitude is cut off at ten thousand million
+-- no line of the text ends
+pub record NoLine (text : List ℕ) : Type 0 where
+  pub lines : lines_of text ≡ []
+  pub tail : tail_of text ≡ text
+
+-- the text begins with a line, and more follows its line feed
+pub record FirstLine (text line more : List ℕ) : Type 0 where
+  pub lines : lines_of text ≡ line ∷ lines_of more
+  pub tail : tail_of text ≡ tail_of more
+  pub shorter : length more < length text
+
+-- a value whose magnitude is cut off at 2^32 - 1
 abbrev pub capped : ℤ → ℤ
-capped (pos n) = pos (min n 10000000000)
-capped (negsuc n) = negsuc (min n 9999999999)
+capped (pos n) = pos (min n 4294967295)
+capped (negsuc n) = negsuc (min n 4294967294)
 
 -- an answer to what may be at fault: the fault, or a value of which P holds
 abbrev pub Judged : {X : Type 0} → Option Fault → (X → Type 0) → Result X Fault → Type 0

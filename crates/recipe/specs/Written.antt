@@ -1,6 +1,6 @@
 -- The text of a recipe, written from its stages in one way only, and what the reading answers to it.
 use Rattle.std.specs.Prelude.{◌≡◌, ℕ, ◌+◌, ◌-◌, ◌<◌, ◌≤◌, List, [], ◌∷◌, ◌++◌, map, length, take, ℤ, pos, negsuc, ◌≤ℤ◌, Ok, Err, codes, decimal, ◌≢◌, slice_index_or}
-use Rattle.std.specs.List.{flat_map, AllByRecursion}
+use Rattle.std.specs.List.{flat_map, join_with_byte, AllByRecursion}
 use Rattle.std.specs.Fmt.{signed_decimal}
 use Rattle.stages.specs.Channels.{half_of}
 use Rattle.stages.specs.declared.stage.Axis.{Axis}
@@ -48,15 +48,9 @@ stage_lines (lift l ss) = lift_line l (length ss) ∷ map step_line ss
 stage_lines (dep first rs) = dep_line first (1 + length rs) ∷ map row_line rs
 stage_lines (rct first) = rct_line first ∷ []
 
--- parts with a separator between each two
-abbrev pub parted : ℕ → List (List ℕ) → List ℕ
-parted s [] = []
-parted s (p ∷ []) = p
-parted s (p ∷ q ∷ ps) = p ++ s ∷ parted s (q ∷ ps)
-
 -- a line is its fields parted by commas
 abbrev pub commas : List (List ℕ) → List ℕ
-commas fs = parted 44 fs
+commas fs = join_with_byte 44 fs
 
 -- with its line feed
 abbrev pub ended : List ℕ → List ℕ

@@ -8,7 +8,7 @@ ghost use Rattle.recipe.specs.Rules.{set};
 use crate::asked::Asked;
 use crate::fault::{Cause, Fault};
 use crate::line::Line;
-use crate::parts::find;
+use crate::lines::first_line;
 use crate::request::Request;
 use crate::table::Recipe;
 use sets::shape::Shape;
@@ -52,21 +52,16 @@ fn set_and_recipe(text: &[u8]) -> Result<Request, Fault>
             field: 0,
         });
     }
-    let end = find(text, b'\n');
-    if end == text.len() {
+    let Some((bytes, rest)) = first_line(text) else {
         return Err(Fault {
             cause: Cause::EndsInside,
             line: 1,
             field: 0,
         });
-    }
-    let line = Line {
-        bytes: &text[..end],
-        number: 1,
     };
-    let asked = set_due(&line)?;
+    let asked = set_due(&Line { bytes, number: 1 })?;
     let mut recipe = Recipe::new();
-    recipe.fill(&text[end + 1..], 2)?;
+    recipe.fill(rest, 2)?;
     Ok(Request {
         shape: asked.shape,
         span: asked.span,

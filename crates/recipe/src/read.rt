@@ -11,7 +11,7 @@ use crate::begun::Begun;
 use crate::fault::{Cause, Fault};
 use crate::forms::{dep_line, lift_line, rct_line, row_due, step_due};
 use crate::line::Line;
-use crate::parts::find;
+use crate::lines::first_line;
 use crate::table::Recipe;
 use stages::stage::Stage;
 
@@ -103,23 +103,13 @@ impl Recipe {
         let mut rest = text;
         let mut number = first;
         let mut left = 0;
-        loop {
-            let end = find(rest, b'\n');
-            if end == rest.len() {
-                break;
-            }
-            let line = Line {
-                bytes: &rest[..end],
-                number,
-            };
-            left = self.take_line(&line, left)?;
-            rest = &rest[end + 1..];
+        while let Some((bytes, after)) = first_line(rest) {
+            left = self.take_line(&Line { bytes, number }, left)?;
+            rest = after;
             number += 1;
         }
-        if rest.len() == 0 {
-            if left == 0 {
-                return Ok(());
-            }
+        if rest.is_empty() && left == 0 {
+            return Ok(());
         }
         Err(Fault {
             cause: Cause::EndsInside,
