@@ -1,6 +1,7 @@
 -- What is wrong with a field, and the first field that is.
 use Rattle.std.proofs.Common.{◌≡◌, ℕ, ◌+◌, Bool, true, false, cond, ◌&&◌, List, [], ◌∷◌, drop, ℤ, Some, None, Err, Decides, Option, Result, nat_eq, sym, refl, ap, ◌∙◌, subst, inl, inr, arith, rules}
 use Rattle.std.specs.Int.Signed.{le_z}
+use Rattle.std.specs.Option.{ok_or}
 use Rattle.std.specs.Cmp.Lexicographic.{pointwise}
 use Rattle.std.proofs.lemmas.Slice.Eq.{slice_eq-Decides, compares_Decides}
 use Rattle.std.proofs.lemmas.Int.{ints}
@@ -124,17 +125,16 @@ held_by_test a b z v h e =
     let high : le_z z b ≡ true = p.1 in
     record { is = e; above = grind (arith, ints); below = grind (arith, ints) }
 
+-- the number in a field, if it is one between its limits, or else the fault
 module _ (line : ℕ) (fs : List (List ℕ)) (k : ℕ) (a b : ℤ) (ds : List ℕ) where
-  pub within-right : (v : ℤ) → (ds ≡ field fs k) × (is_number (field fs k) ≡ true) → Some v ≡ cond (le_z a (value_of ds) && le_z (value_of ds) b) (Some (value_of ds)) None → (first_wrong line fs k (between a b ∷ []) ≡ None) × Held a b (value_of (field fs k)) v
-  within-right v n e =
+  pub judged_within : (o : Option ℤ) (r : Result ℤ Fault) → (ds ≡ field fs k) × (is_number (field fs k) ≡ true) → o ≡ cond (le_z a (value_of ds) && le_z (value_of ds) b) (Some (value_of ds)) None → r ≡ ok_or o (fault_of line k OutsideLimit) → Judged (first_wrong line fs k (between a b ∷ [])) (Held a b (value_of (field fs k))) r
+  judged_within (Some v) r n e h =
       let e' = rw n.0 at e in
       let p = some_from_cond _ v (value_of (field fs k)) e' in
-      (first_wrong-later line fs k (between a b) [] (wrong-within a b (field fs k) n.1 p.0) ∙ first_wrong-none line fs (k + 1), held_by_test a b (value_of (field fs k)) v p.0 p.1)
-
-  pub outside_wrong : (ds ≡ field fs k) × (is_number (field fs k) ≡ true) → None ≡ cond (le_z a (value_of ds) && le_z (value_of ds) b) (Some (value_of ds)) None → first_wrong line fs k (between a b ∷ []) ≡ Some (fault_of line k OutsideLimit)
-  outside_wrong n e =
+      rw h (first_wrong-later line fs k (between a b) [] (wrong-within a b (field fs k) n.1 p.0) ∙ first_wrong-none line fs (k + 1), held_by_test a b (value_of (field fs k)) v p.0 p.1)
+  judged_within None r n e h =
       let e' = rw n.0 at e in
-      first_wrong-here line fs k (between a b) [] OutsideLimit (wrong-outside a b (field fs k) n.1 (none_from_cond _ (value_of (field fs k)) e'))
+      rw h (first_wrong-here line fs k (between a b) [] OutsideLimit (wrong-outside a b (field fs k) n.1 (none_from_cond _ (value_of (field fs k)) e')))
 
 pub listed_right : (line : ℕ) (fs : List (List ℕ)) (k : ℕ) (ws : List (List ℕ)) → is_word (field fs k) ≡ true → member (field fs k) ws ≡ true → first_wrong line fs k (listed ws ∷ []) ≡ None
 listed_right line fs k ws is m = first_wrong-later line fs k (listed ws) [] (wrong-listed ws (field fs k) is m) ∙ first_wrong-none line fs (k + 1)

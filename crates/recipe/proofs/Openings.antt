@@ -1,6 +1,6 @@
 -- The form of a line that is due, by the word it begins with, and what a line of that form adds.
-use Rattle.std.proofs.Common.{◌≡◌, ℕ, ◌+◌, ◌<◌, Bool, true, false, cond, eqb, ltb, List, [], ◌∷◌, ◌++◌, length, Some, None, Ok, Err, codes, Option, Result, sym, refl, ap, ◌∙◌, subst, inl, inr, arith}
-use Rattle.std.proofs.lemmas.Bool.{cond-true, cond-false, ne_eqb, eq-eqb, ltb-true, cases_eq}
+use Rattle.std.proofs.Common.{◌≡◌, ℕ, ◌+◌, ◌<◌, Bool, true, false, cond, ◌&&◌, eqb, leb, ltb, List, [], ◌∷◌, ◌++◌, length, Some, None, Ok, Err, codes, Option, Result, sym, refl, ap, ◌∙◌, subst, arith}
+use Rattle.std.proofs.lemmas.Bool.{cond-true, cond-false, ne_eqb, ltb-true}
 use Rattle.recipe.specs.declared.begun.Begun.{Begun}
 use Rattle.recipe.specs.declared.fault.Cause.TheVariants.{FieldCount, WordDue, StageCount}
 use Rattle.recipe.specs.declared.fault.Fault.{Fault}
@@ -11,10 +11,9 @@ use Rattle.recipe.specs.Promises.{Judged, Begins, Opened, LinesFit, headed, fiel
 use Rattle.recipe.specs.Rules.{Form, lift, dep, rct, same, field, has_fields, first_wrong, rules_of}
 use Rattle.recipe.proofs.Rulings.{some_none}
 
--- one comma fewer than fields
-pub commas-fields : (r n m : ℕ) → r + 1 ≡ n → eqb r m ≡ eqb n (m + 1)
-commas-fields r n m e =
-    elim (cases_eq r m) [ inl s ↦ eq-eqb r m s ∙ sym (eq-eqb n (m + 1) (omega arith)) | inr d ↦ ne_eqb r m d ∙ sym (ne_eqb n (m + 1) (λ s. d (omega arith))) ]
+-- just so many fields behind the word
+pub just : (n m : ℕ) → (leb (n + 1) m && leb m (n + 1)) ≡ eqb m (n + 1)
+just n m = grind arith
 
 -- the word and the fields, tested one after the other
 module _ (word sized : Bool) (line : ℕ) (rest first second : Option Fault) (f₁ f₂ : Fault) (is₁ : first ≡ Some f₁) (is₂ : second ≡ Some f₂) where

@@ -1,11 +1,11 @@
 -- The shapes of what the parts of the reader promise one another.
-use Rattle.std.specs.Prelude.{◌≡◌, ℕ, ◌+◌, ◌*◌, ◌<◌, ◌≤◌, min, cond, List, [], ◌∷◌, ◌++◌, length, ℤ, pos, negsuc, ◌≤ℤ◌, Some, None, Ok, Err, Option, Result}
+use Rattle.std.specs.Prelude.{◌≡◌, ℕ, ◌+◌, ◌*◌, ◌<◌, ◌≤◌, min, Bool, ◌&&◌, nat_le, cond, List, [], ◌∷◌, ◌++◌, length, ℤ, pos, negsuc, ◌≤ℤ◌, Some, None, Ok, Err, Option, Result}
 use Rattle.sets.specs.Sets.{bounds_of}
-use Rattle.recipe.specs.declared.asked.Asked.{Asked}
 use Rattle.recipe.specs.declared.begun.Begun.{Begun}
 use Rattle.recipe.specs.declared.fault.Cause.TheVariants.{FieldCount, WordDue}
 use Rattle.recipe.specs.declared.fault.Fault.{Fault}
 use Rattle.recipe.specs.declared.line.Line.{Line}
+use Rattle.recipe.specs.declared.request.Request.{Request}
 use Rattle.recipe.specs.Fields.{fields_of, lines_of, tail_of}
 use Rattle.recipe.specs.Grammar.{at_hand, fault_at, line_fault, taken}
 use Rattle.stages.specs.Plain.{Plain, plain, lift as a-lift, dep as a-dep, rct as an-rct}
@@ -47,6 +47,10 @@ pub record Counted (least greatest : ℕ) (z : ℤ) (n : ℕ) : Type 0 where
 
 abbrev pub fields_in : Line → List (List ℕ)
 fields_in l = fields_of l.bytes.now
+
+-- whether a line has from least to greatest fields behind its word
+abbrev pub has_behind : ℕ → ℕ → Line → Bool
+has_behind least greatest l = nat_le (least + 1) (length (fields_in l)) && nat_le (length (fields_in l)) (greatest + 1)
 
 -- the first field of a line, from field k on, that breaks its rule
 abbrev pub wrong_from : Line → ℕ → List Rule → Option Fault
@@ -94,7 +98,7 @@ abbrev pub Reads : Result (List Plain) Fault → List Plain → Result Unit Faul
 Reads o held (Ok u) = o ≡ Ok held
 Reads o held (Err f) = o ≡ Err f
 
--- what a SET line says, as it is handed out
-pub record Sets (fs : List (List ℕ)) (a : Asked) : Type 0 where
-  pub shape : a.shape ≡ shape_from fs
-  pub span : bounds_of a.span ≡ span_from fs
+-- what a SET line asks for, as it is handed out
+pub record Sets (fs : List (List ℕ)) (q : Request) : Type 0 where
+  pub shape : q.shape ≡ shape_from fs
+  pub span : bounds_of q.span ≡ span_from fs

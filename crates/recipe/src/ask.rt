@@ -5,7 +5,6 @@ ghost use Rattle.recipe.specs.RequestLaws.{RequestLaws};
 ghost use Rattle.recipe.specs.Requests.{requested};
 ghost use Rattle.recipe.specs.Rules.{set};
 
-use crate::asked::Asked;
 use crate::fault::{Cause, Fault};
 use crate::line::Line;
 use crate::lines::first_line;
@@ -14,8 +13,8 @@ use crate::table::Recipe;
 use sets::shape::Shape;
 use sets::span::Span;
 
-// The fields of a SET line.
-fn set_line(line: &Line) -> Result<Asked, Fault>
+// What the fields of a SET line ask for, with no recipe yet.
+fn set_line(line: &Line) -> Result<Request, Fault>
     ensures { Judged (wrong_as set line.now) (Sets (fields_in line.now)) result }
 {
     let channels = line.natural(1, 1, 64)?;
@@ -23,22 +22,22 @@ fn set_line(line: &Line) -> Result<Asked, Fault>
     let origin = line.natural(3, 0, 1048575)?;
     let least = line.number(4, -2147483648, 2147483647)?;
     let greatest = line.number(5, least, 2147483647)?;
-    Ok(Asked {
+    Ok(Request {
         shape: Shape {
             channels,
             samples,
             origin,
         },
         span: Span { least, greatest },
+        recipe: Recipe::new(),
     })
 }
 
-// What a line says that must be a SET line.
-fn set_due(line: &Line) -> Result<Asked, Fault>
+// What a line asks for that must be a SET line.
+fn set_due(line: &Line) -> Result<Request, Fault>
     ensures { Judged (headed (codes "SET") set line.now.number (fields_in line.now)) (Sets (fields_in line.now)) result }
 {
-    let sized = line.commas() == 5;
-    line.begun(b"SET", sized)?;
+    line.begun(b"SET", 5, 5)?;
     set_line(line)
 }
 
@@ -59,14 +58,9 @@ fn set_and_recipe(text: &[u8]) -> Result<Request, Fault>
             field: 0,
         });
     };
-    let asked = set_due(&Line { bytes, number: 1 })?;
-    let mut recipe = Recipe::new();
-    recipe.fill(rest, 2)?;
-    Ok(Request {
-        shape: asked.shape,
-        span: asked.span,
-        recipe,
-    })
+    let mut request = set_due(&Line { bytes, number: 1 })?;
+    request.recipe.fill(rest, 2)?;
+    Ok(request)
 }
 
 // Does nothing: its promise is the law of the format.

@@ -2,7 +2,7 @@ ghost use Rattle.std.specs.Prelude.{◌≡◌, ◌+◌, ◌^◌, ◌<◌, true, 
 ghost use Rattle.recipe.specs.declared.fault.Cause.TheVariants.{FieldCount, WordDue};
 ghost use Rattle.recipe.specs.Grammar.{fault_at};
 ghost use Rattle.recipe.specs.Fields.{is_word};
-ghost use Rattle.recipe.specs.Promises.{Judged, Held, Counted, fields_in, wrong_from};
+ghost use Rattle.recipe.specs.Promises.{Judged, Held, Counted, fields_in, has_behind, wrong_from};
 ghost use Rattle.recipe.specs.Rules.{between, listed, same, field as at, number as number_at};
 
 use crate::fault::{Cause, Fault};
@@ -34,18 +34,26 @@ impl<'a> Line<'a> {
         first == word
     }
 
+    // Refuses a line that has not from `least` to `greatest` fields behind its word.
+    pub(crate) fn sized(&self, least: usize, greatest: usize) -> Result<(), Fault>
+        ensures { Judged (if has_behind least greatest self.now then None else fault_at FieldCount self.now.number) (λ _. Unit {0}) result }
+    {
+        let behind = self.commas();
+        if behind < least || behind > greatest {
+            return Err(self.fault(Cause::FieldCount, 0));
+        }
+        Ok(())
+    }
+
     // Refuses a line that does not begin with `word`, and then one whose number of fields is wrong.
-    pub(crate) fn begun(&self, word: &[u8], sized: bool) -> Result<(), Fault>
+    pub(crate) fn begun(&self, word: &[u8], least: usize, greatest: usize) -> Result<(), Fault>
         requires { is_word word.now ≡ true }
-        ensures { Judged (if same (at (fields_in self.now) 0) word.now then (if sized then None else fault_at FieldCount self.now.number) else fault_at WordDue self.now.number) (λ _. Unit {0}) result }
+        ensures { Judged (if same (at (fields_in self.now) 0) word.now then (if has_behind least greatest self.now then None else fault_at FieldCount self.now.number) else fault_at WordDue self.now.number) (λ _. Unit {0}) result }
     {
         if !self.begins(word) {
             return Err(self.fault(Cause::WordDue, 0));
         }
-        if !sized {
-            return Err(self.fault(Cause::FieldCount, 0));
-        }
-        Ok(())
+        self.sized(least, greatest)
     }
 
     // The number in field `k`, if it is one between the limits.
@@ -56,10 +64,7 @@ impl<'a> Line<'a> {
         let Field::Number(digits) = self.field(k) else {
             return Err(self.fault(Cause::NotListed, k));
         };
-        match value_within(digits, least, greatest) {
-            Some(value) => Ok(value),
-            None => Err(self.fault(Cause::OutsideLimit, k)),
-        }
+        value_within(digits, least, greatest).ok_or(self.fault(Cause::OutsideLimit, k))
     }
 
     // The number in field `k`, if it is one from `least` to `greatest`.
@@ -71,19 +76,24 @@ impl<'a> Line<'a> {
         Ok(value as usize)
     }
 
-    // Whether field `k` is the first of two words: it must be one of them.
-    pub(crate) fn choice(&self, k: usize, first: &[u8], second: &[u8]) -> Result<bool, Fault>
+    // What the word in field `k` stands for: it must be one of two.
+    pub(crate) fn one_of<T: Copy>(
+        &self,
+        k: usize,
+        first: (&[u8], T),
+        second: (&[u8], T),
+    ) -> Result<T, Fault>
         requires { k < 16 }
-        ensures { Judged (wrong_from self.now k (listed (first.now ∷ second.now ∷ []) ∷ [])) (λ b. b ≡ same (at (fields_in self.now) k) first.now) result }
+        ensures { Judged (wrong_from self.now k (listed (first.entry.0.now ∷ second.entry.0.now ∷ []) ∷ [])) (λ x. x ≡ (if same (at (fields_in self.now) k) first.entry.0.now then first.entry.1 else second.entry.1)) result }
     {
         let Field::Word(word) = self.field(k) else {
             return Err(self.fault(Cause::NotListed, k));
         };
-        if word == first {
-            return Ok(true);
+        if word == first.0 {
+            return Ok(first.1);
         }
-        if word == second {
-            return Ok(false);
+        if word == second.0 {
+            return Ok(second.1);
         }
         Err(self.fault(Cause::NotListed, k))
     }

@@ -1,6 +1,4 @@
 ghost use Rattle.std.specs.Prelude.{◌≡◌, ◌+◌, ◌-◌, ◌≤◌, [], length, take, replicate, pos, if◌then◌else◌, codes};
-ghost use Rattle.stages.specs.declared.stage.Axis.TheVariants.{Time, Channel};
-ghost use Rattle.stages.specs.declared.stage.Extension.TheVariants.{Mirrored, Nearest};
 ghost use Rattle.stages.specs.Channels.{half_of};
 ghost use Rattle.stages.specs.Plain.{taps_of};
 ghost use Rattle.recipe.specs.Grammar.{natural, numbers, lift_from, parity_from, step_from, row_from};
@@ -39,29 +37,12 @@ fn no_quotient() -> Quotient
     }
 }
 
-fn axis(time: bool) -> Axis
-    ensures { result ≡ (if time then Time else Channel) }
-{
-    if time { Axis::Time } else { Axis::Channel }
-}
-
-fn extension(mirrored: bool) -> Extension
-    ensures { result ≡ (if mirrored then Mirrored else Nearest) }
-{
-    if mirrored {
-        Extension::Mirrored
-    } else {
-        Extension::Nearest
-    }
-}
-
 fn parity(number: usize) -> Parity
     ensures { result ≡ parity_from number }
 {
-    if number == 0 {
-        Parity::Even
-    } else {
-        Parity::Odd
+    match number {
+        0 => Parity::Even,
+        _ => Parity::Odd,
     }
 }
 
@@ -69,11 +50,15 @@ fn parity(number: usize) -> Parity
 pub(crate) fn lift_line(line: &Line) -> Result<Begun, Fault>
     ensures { Judged (wrong_as lift line.now) (Begins (a-lift (lift_from (fields_in line.now)) []) (natural (fields_in line.now) 7)) result }
 {
-    let time = line.choice(1, b"T", b"C")?;
+    let axis = line.one_of(1, (b"T", Axis::Time), (b"C", Axis::Channel))?;
     let first = line.natural(2, 0, 63)?;
     let count = line.natural(3, 1, 64 - first)?;
     let level = line.natural(4, 0, 15)?;
-    let mirrored = line.choice(5, b"WS", b"CON")?;
+    let extension = line.one_of(
+        5,
+        (b"WS", Extension::Mirrored),
+        (b"CON", Extension::Nearest),
+    )?;
     let odd = line.natural(6, 0, 1)?;
     let left = line.natural(7, 1, 4)?;
     let step = Step {
@@ -81,11 +66,11 @@ pub(crate) fn lift_line(line: &Line) -> Result<Begun, Fault>
         quotient: no_quotient(),
     };
     let lift = Lift {
-        axis: axis(time),
+        axis,
         first,
         count,
         level: level as u32,
-        extension: extension(mirrored),
+        extension,
         parity: parity(odd),
         steps: [step; 4],
         step_count: 0,
@@ -101,8 +86,7 @@ pub(crate) fn dep_line(line: &Line) -> Result<Begun, Fault>
     ensures { Judged (wrong_as dep line.now) (Begins (a-dep (natural (fields_in line.now) 1) []) (natural (fields_in line.now) 2 - 1)) result }
 {
     let first = line.natural(1, 0, 63)?;
-    let greatest = if first < 56 { 8 } else { 64 - first };
-    let count = line.natural(2, 2, greatest)?;
+    let count = line.natural(2, 2, (64 - first).min(8))?;
     let dep = Dep {
         first,
         count: 1,
@@ -147,10 +131,8 @@ fn step_line(line: &Line, n: usize) -> Result<Step, Fault>
 pub(crate) fn step_due(line: &Line) -> Result<Step, Fault>
     ensures { Judged (headed (codes "STEP") step line.now.number (fields_in line.now)) (λ s. plain_step s ≡ step_from (fields_in line.now)) result }
 {
-    let commas = line.commas();
-    let sized = commas >= 4 && commas <= 11;
-    line.begun(b"STEP", sized)?;
-    step_line(line, commas - 3)
+    line.begun(b"STEP", 4, 11)?;
+    step_line(line, line.commas() - 3)
 }
 
 // Half of 2 to the exponent, rounded down.
@@ -186,7 +168,6 @@ pub(crate) fn row_due(line: &Line, i: usize) -> Result<Quotient, Fault>
     requires { i ≤ 7 }
     ensures { Judged (headed (codes "ROW") (row i) line.now.number (fields_in line.now)) (λ q. plain_row q ≡ row_from (fields_in line.now)) result }
 {
-    let sized = line.commas() == 1 + i;
-    line.begun(b"ROW", sized)?;
+    line.begun(b"ROW", i + 1, i + 1)?;
     row_line(line, i)
 }

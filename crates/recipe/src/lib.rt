@@ -2,7 +2,6 @@
 #![tactic(auto)]
 
 pub mod ask;
-mod asked;
 mod begun;
 mod checks;
 pub mod entries;

@@ -4,7 +4,7 @@ ghost use Rattle.recipe.specs.Fields.{lines_of, tail_of};
 ghost use Rattle.recipe.specs.Grammar.{at_hand, begun, fault_at, line_fault, read_from, reading};
 ghost use Rattle.recipe.specs.Written.{ReadingLaws};
 ghost use Rattle.recipe.specs.Tables.{table_of};
-ghost use Rattle.recipe.specs.Promises.{Judged, LinesFit, Opened, Takes, Reads, fields_in};
+ghost use Rattle.recipe.specs.Promises.{Judged, LinesFit, Opened, Takes, Reads, fields_in, has_behind};
 ghost use Rattle.recipe.specs.Replies.{Answers};
 
 use crate::begun::Begun;
@@ -21,17 +21,14 @@ fn recipes_are_lawful()
 {}
 
 impl Recipe {
-    // Refuses a stage that has no room, and then a line whose number of fields is wrong.
-    fn holds(&self, line: &Line, sized: bool) -> Result<(), Fault>
-        ensures { Judged (if nat_lt (length (table_of self.now)) 16 then (if sized then None else fault_at FieldCount line.now.number) else fault_at StageCount line.now.number) (λ _. Unit {0}) result }
+    // Refuses a stage that has no room, and then a line that has not so many fields behind its word.
+    fn holds(&self, line: &Line, behind: usize) -> Result<(), Fault>
+        ensures { Judged (if nat_lt (length (table_of self.now)) 16 then (if has_behind behind behind line.now then None else fault_at FieldCount line.now.number) else fault_at StageCount line.now.number) (λ _. Unit {0}) result }
     {
-        if self.len >= 16 {
+        if self.len == 16 {
             return Err(line.fault(Cause::StageCount, 0));
         }
-        if !sized {
-            return Err(line.fault(Cause::FieldCount, 0));
-        }
-        Ok(())
+        line.sized(behind, behind)
     }
 
     // The stage that a line begins.
@@ -39,15 +36,15 @@ impl Recipe {
         ensures { Judged (line_fault (record { stages = table_of self.now; left = 0 }) line.now.number (fields_in line.now)) (Opened (table_of self.now) line.now) result }
     {
         if line.begins(b"LIFT") {
-            self.holds(line, line.commas() == 7)?;
+            self.holds(line, 7)?;
             return lift_line(line);
         }
         if line.begins(b"DEP") {
-            self.holds(line, line.commas() == 2)?;
+            self.holds(line, 2)?;
             return dep_line(line);
         }
         if line.begins(b"RCT") {
-            self.holds(line, line.commas() == 1)?;
+            self.holds(line, 1)?;
             return rct_line(line);
         }
         Err(line.fault(Cause::WordDue, 0))

@@ -1,11 +1,11 @@
-use Rattle.std.proofs.Common.{eqb, Some, sym, refl, ap, ◌∙◌}
+use Rattle.std.proofs.Common.{Some, sym, refl, ap, ◌∙◌}
 use Rattle.std.proofs.lemmas.Result.{err_from_is_err_and}
 use Rattle.recipe.specs.Fields.{is_word}
 use Rattle.recipe.specs.Tables.{table_of}
 use Rattle.recipe.specs.Promises.{fields_in}
 use Rattle.recipe.specs.Rules.{lift, dep, rct, field}
 use Rattle.recipe.proofs.Faults.{judged_err}
-use Rattle.recipe.proofs.Openings.{commas-fields, begun-lift, begun-dep, begun-rct, begun-none, begins_fault, begins_judged, begins_none}
+use Rattle.recipe.proofs.Openings.{just, begun-lift, begun-dep, begun-rct, begun-none, begins_fault, begins_judged, begins_none}
 use Rattle.recipe.proofs.table.Recipe.stage_line.Goals as goal
 
 pub begins-requires : goal.begins-requires
@@ -15,11 +15,11 @@ begins-requires c = refl
 pub returns-in_err-holds : goal.returns-in_err-holds
 returns-in_err-holds c =
     judged_err _ _ c.from_residual.result _ (err_from_is_err_and c.from_residual.result c.from_residual.ensures.1)
-    (begins_fault (table_of c.args.self.now) c.args.line.now lift (begun-lift (field (fields_in c.args.line.now) 0) (sym c.if-begins.ensures)) (eqb c.commas.result 7) (commas-fields c.commas.result _ 7 c.commas.ensures) _ c.in_err-holds.ensures)
+    (begins_fault (table_of c.args.self.now) c.args.line.now lift (begun-lift (field (fields_in c.args.line.now) 0) (sym c.if-begins.ensures)) _ (just 7 _) _ c.in_err-holds.ensures)
 
 pub returns-then-begins : goal.returns-then-begins
 returns-then-begins c =
-    begins_judged (table_of c.args.self.now) c.args.line.now lift (begun-lift (field (fields_in c.args.line.now) 0) (sym c.if-begins.ensures)) (eqb c.commas.result 7) (commas-fields c.commas.result _ 7 c.commas.ensures) _ _ c.lift_line.result refl c.in_ok-holds.ensures.0 c.lift_line.ensures
+    begins_judged (table_of c.args.self.now) c.args.line.now lift (begun-lift (field (fields_in c.args.line.now) 0) (sym c.if-begins.ensures)) _ (just 7 _) _ _ c.lift_line.result refl c.in_ok-holds.ensures.0 c.lift_line.ensures
 
 pub begins-requires-2 : goal.begins-requires-2
 unfolding is_word
@@ -28,11 +28,11 @@ begins-requires-2 c = refl
 pub returns-in_err-holds-2 : goal.returns-in_err-holds-2
 returns-in_err-holds-2 c =
     judged_err _ _ c.from_residual-in_err-holds-2.result _ (err_from_is_err_and c.from_residual-in_err-holds-2.result c.from_residual-in_err-holds-2.ensures.1)
-    (begins_fault (table_of c.args.self.now) c.args.line.now dep (begun-dep (field (fields_in c.args.line.now) 0) (sym c.if-begins.ensures) (sym c.if-begins-2.ensures)) (eqb c.commas-then-begins-2.result 2) (commas-fields c.commas-then-begins-2.result _ 2 c.commas-then-begins-2.ensures) _ c.in_err-holds-2.ensures)
+    (begins_fault (table_of c.args.self.now) c.args.line.now dep (begun-dep (field (fields_in c.args.line.now) 0) (sym c.if-begins.ensures) (sym c.if-begins-2.ensures)) _ (just 2 _) _ c.in_err-holds-2.ensures)
 
 pub returns-then-begins-2 : goal.returns-then-begins-2
 returns-then-begins-2 c =
-    begins_judged (table_of c.args.self.now) c.args.line.now dep (begun-dep (field (fields_in c.args.line.now) 0) (sym c.if-begins.ensures) (sym c.if-begins-2.ensures)) (eqb c.commas-then-begins-2.result 2) (commas-fields c.commas-then-begins-2.result _ 2 c.commas-then-begins-2.ensures) _ _ c.dep_line.result refl c.in_ok-holds-2.ensures.0 c.dep_line.ensures
+    begins_judged (table_of c.args.self.now) c.args.line.now dep (begun-dep (field (fields_in c.args.line.now) 0) (sym c.if-begins.ensures) (sym c.if-begins-2.ensures)) _ (just 2 _) _ _ c.dep_line.result refl c.in_ok-holds-2.ensures.0 c.dep_line.ensures
 
 pub begins-requires-3 : goal.begins-requires-3
 unfolding is_word
@@ -41,11 +41,11 @@ begins-requires-3 c = refl
 pub returns-in_err-holds-3 : goal.returns-in_err-holds-3
 returns-in_err-holds-3 c =
     judged_err _ _ c.from_residual-in_err-holds-3.result _ (err_from_is_err_and c.from_residual-in_err-holds-3.result c.from_residual-in_err-holds-3.ensures.1)
-    (begins_fault (table_of c.args.self.now) c.args.line.now rct (begun-rct (field (fields_in c.args.line.now) 0) (sym c.if-begins.ensures) (sym c.if-begins-2.ensures) (sym c.if-begins-3.ensures)) (eqb c.commas-then-begins-3.result 1) (commas-fields c.commas-then-begins-3.result _ 1 c.commas-then-begins-3.ensures) _ c.in_err-holds-3.ensures)
+    (begins_fault (table_of c.args.self.now) c.args.line.now rct (begun-rct (field (fields_in c.args.line.now) 0) (sym c.if-begins.ensures) (sym c.if-begins-2.ensures) (sym c.if-begins-3.ensures)) _ (just 1 _) _ c.in_err-holds-3.ensures)
 
 pub returns-then-begins-3 : goal.returns-then-begins-3
 returns-then-begins-3 c =
-    begins_judged (table_of c.args.self.now) c.args.line.now rct (begun-rct (field (fields_in c.args.line.now) 0) (sym c.if-begins.ensures) (sym c.if-begins-2.ensures) (sym c.if-begins-3.ensures)) (eqb c.commas-then-begins-3.result 1) (commas-fields c.commas-then-begins-3.result _ 1 c.commas-then-begins-3.ensures) _ _ c.rct_line.result refl c.in_ok-holds-3.ensures.0 c.rct_line.ensures
+    begins_judged (table_of c.args.self.now) c.args.line.now rct (begun-rct (field (fields_in c.args.line.now) 0) (sym c.if-begins.ensures) (sym c.if-begins-2.ensures) (sym c.if-begins-3.ensures)) _ (just 1 _) _ _ c.rct_line.result refl c.in_ok-holds-3.ensures.0 c.rct_line.ensures
 
 pub returns : goal.returns
 returns c =
