@@ -6,6 +6,7 @@ pub mod Limits
 pub mod TapRules
 pub mod Alike
 pub mod Tables
+pub mod Growing
 pub mod Openings
 pub mod Texts
 pub mod Reports

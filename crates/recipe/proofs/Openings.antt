@@ -1,13 +1,13 @@
 -- The form of a line that is due, by the word it begins with, and what a line of that form adds.
-use Rattle.std.proofs.Common.{◌≡◌, ℕ, ◌+◌, ◌<◌, Bool, true, false, cond, ◌&&◌, eqb, leb, ltb, List, [], ◌∷◌, ◌++◌, length, Some, None, Ok, Err, codes, Option, Result, sym, refl, ap, ◌∙◌, subst, arith}
+use Rattle.std.proofs.Common.{◌≡◌, ℕ, ◌+◌, ◌<◌, Bool, true, false, cond, ◌&&◌, eqb, leb, ltb, List, [], ◌∷◌, ◌++◌, length, Some, None, Ok, Err, codes, Option, Result, sym, refl, ap, ◌∙◌, arith}
 use Rattle.std.proofs.lemmas.Bool.{cond-true, cond-false, ne_eqb, ltb-true}
 use Rattle.recipe.specs.declared.begun.Begun.{Begun}
 use Rattle.recipe.specs.declared.fault.Cause.TheVariants.{FieldCount, WordDue, StageCount}
 use Rattle.recipe.specs.declared.fault.Fault.{Fault}
 use Rattle.recipe.specs.declared.line.Line.{Line}
 use Rattle.recipe.specs.Grammar.{Sofar, at_hand, form_begun, form_inside, form_due, form_fault, form_taken, has_space, line_fault, taken, fault_at}
-use Rattle.stages.specs.Plain.{Plain, plain, rct as an-rct}
-use Rattle.recipe.specs.Promises.{Judged, Begins, Opened, LinesFit, headed, fields_in}
+use Rattle.stages.specs.Plain.{Plain, rct as an-rct}
+use Rattle.recipe.specs.Promises.{Judged, Begins, Opened, headed, fields_in}
 use Rattle.recipe.specs.Rules.{Form, lift, dep, rct, same, field, has_fields, first_wrong, rules_of}
 use Rattle.recipe.proofs.Rulings.{some_none}
 
@@ -45,14 +45,11 @@ module _ (ts : List Plain) (l : Line) (g : Form) (is : form_begun (field (fields
   pub begins_judged : (s : Plain) (n : ℕ) (r : Result Begun Fault) → form_taken (record { stages = ts; left = 0 }) (fields_in l) (Some g) ≡ record { stages = ts ++ s ∷ []; left = n } → cond (ltb (length ts) 16) (cond sized None (fault_at FieldCount l.number)) (fault_at StageCount l.number) ≡ None → Judged (first_wrong l.number (fields_in l) 1 (rules_of g (fields_in l))) (Begins s n) r → Judged (line_fault (record { stages = ts; left = 0 }) l.number (fields_in l)) (Opened ts l) r
   unfolding taken
   begins_judged s n (Ok b) t e h =
-      let p = tested_none (ltb (length ts) 16) sized l.number (first_wrong l.number (fields_in l) 1 (rules_of g (fields_in l))) _ _ _ _ refl refl e in
-      let F : Plain → ℕ → Type 0 = λ s n. LinesFit (Some s) n in
-      let fits' : LinesFit (Some (plain b.stage)) n = subst (λ s. F s n) (sym h.1.stage) h.1.fits in (
+      let p = tested_none (ltb (length ts) 16) sized l.number (first_wrong l.number (fields_in l) 1 (rules_of g (fields_in l))) _ _ _ _ refl refl e in (
         begins_with ∙ p.1 ∙ h.0,
         record {
           room = ltb-true _ _ p.0;
           is = ap (form_taken (record { stages = ts; left = 0 }) (fields_in l)) is ∙ t ∙ ends (sym h.1.stage) (sym h.1.left);
-          fits = subst (F (plain b.stage)) (sym h.1.left) fits';
         },
       )
     where

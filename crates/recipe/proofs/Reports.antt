@@ -1,14 +1,13 @@
 -- The text of a report by its first line and what follows.
-use Rattle.std.proofs.Common.{◌≡◌, ℕ, ◌<◌, ◌≤◌, leb, List, ◌∷◌, length, Some, None, Ok, Err, codes, Result, sym, refl, ap, ◌∙◌}
+use Rattle.std.proofs.Common.{◌≡◌, ℕ, ◌<◌, ◌≤◌, leb, List, ◌∷◌, length, Some, None, Err, codes, Result, sym, refl, ap, ◌∙◌}
 use Rattle.std.proofs.lemmas.Bool.{cond-true, cond-false, le-leb, lt-leb}
 use Rattle.recipe.specs.declared.fault.Cause.TheVariants.{EndsInside, TooLong}
 use Rattle.recipe.specs.declared.fault.Fault.{Fault}
 use Rattle.recipe.specs.declared.request.Request.{Request}
 use Rattle.recipe.specs.Fields.{fields_of, lines_of, tail_of}
 use Rattle.recipe.specs.Grammar.{begun, read_from}
-use Rattle.stages.specs.Plain.{Plain}
 use Rattle.recipe.specs.Promises.{FirstLine, NoLine, headed}
-use Rattle.recipe.specs.Replies.{Answers, answered}
+use Rattle.recipe.specs.Replies.{answered}
 use Rattle.recipe.specs.Requests.{PlainRequest, set_fault, asked, request_from, requested}
 use Rattle.recipe.specs.Rules.{set}
 
@@ -42,15 +41,6 @@ module _ (t line more : List ℕ) (few : length t ≤ 65536) (first : FirstLine 
 
   pub set_right : headed (codes "SET") set 1 (fields_of line) ≡ None → requested t ≡ asked (fields_of line) (read_from begun 2 (lines_of more) (tail_of more))
   set_right e = split ∙ right_set line _ _ (sym (set_headed _) ∙ e)
-
--- what the answer to a text says of the text
-pub answers_err : (o : Result (List Plain) Fault) (f : Fault) (held : List Plain) → Answers o (Err f) held → o ≡ Err f
-answers_err (Ok ts) f held h = let e = h.0 in cc
-answers_err (Err g) f held h = let e = h.0 in cc
-
-pub answers_ok : (o : Result (List Plain) Fault) (held : List Plain) → Answers o (Ok tt) held → o ≡ Ok held
-answers_ok (Ok ts) held h = ap Ok (sym h.1)
-answers_ok (Err g) held h = let e = h.0 in cc
 
 -- a fault that is passed on
 pub answered-err : (r : Result Request Fault) (o : Result PlainRequest Fault) (f : Fault) → (x : Fault) × (r ≡ Err x) × (x ≡ f) → o ≡ Err f → answered r ≡ o

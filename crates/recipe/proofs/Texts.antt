@@ -1,5 +1,5 @@
 -- The reading of a text, line by line, as a search for the next line feed finds them.
-use Rattle.std.proofs.Common.{◌≡◌, ℕ, ◌+◌, ◌<◌, ◌≤◌, Bool, true, false, not, ltb, cond, ◌&&◌, eqb, List, [], ◌∷◌, length, take, drop, Some, None, Ok, Err, Result, sym, refl, ap, ◌∙◌, subst, arith}
+use Rattle.std.proofs.Common.{◌≡◌, ℕ, ◌+◌, ◌<◌, ◌≤◌, Bool, true, false, not, ltb, cond, ◌&&◌, eqb, List, [], ◌∷◌, length, take, drop, Some, None, Ok, Err, Result, sym, refl, ap, ◌∙◌, arith}
 use Rattle.std.proofs.lemmas.List.{nil_from_length, length-drop}
 use Rattle.std.proofs.lemmas.List.Splits.{slice_split_first}
 use Rattle.std.specs.List.{onto_first, position, position_or_len, prefix_len}
@@ -9,7 +9,9 @@ use Rattle.recipe.specs.declared.fault.Fault.{Fault}
 use Rattle.recipe.specs.Fields.{cut, heads, final, lines_of, tail_of, fields_of, empty}
 use Rattle.recipe.specs.Grammar.{Sofar, line_fault, taken, read_from}
 use Rattle.stages.specs.Plain.{Plain}
-use Rattle.recipe.specs.Promises.{FirstLine, NoLine, Reads}
+use Rattle.recipe.specs.Promises.{FirstLine, NoLine}
+use Rattle.recipe.specs.declared.table.Recipe.{Recipe}
+use Rattle.recipe.specs.Replies.{by_words}
 use Rattle.recipe.proofs.Faults.{some_from_cond, none_from_cond}
 use Rattle.recipe.proofs.Parting.{cut-some, heads-cons, final-cons}
 
@@ -78,5 +80,5 @@ module _ (t : List ℕ) (none : NoLine t) (s : Sofar) (line : ℕ) where
       short (b ∷ bs) ne = refl
 
 -- a fault that is passed on
-pub reads_err : (o : Result (List Plain) Fault) (held : List Plain) (r : Result Unit Fault) (f : Fault) → (x : Fault) × (r ≡ Err x) × (x ≡ f) → o ≡ Err f → Reads o held r
-reads_err o held r f p e = let R : Result Unit Fault → Type 0 = Reads o held in subst R (sym p.1) (e ∙ ap Err (sym p.2))
+pub by_words_err : (o : Result (List Plain) Fault) (r : Result Recipe Fault) (f : Fault) → (x : Fault) × (r ≡ Err x) × (x ≡ f) → o ≡ Err f → by_words r ≡ o
+by_words_err o r f p e = ap by_words p.1 ∙ ap Err p.2 ∙ sym e

@@ -3,9 +3,11 @@ pub mod Fields
 pub mod Tables
 pub mod Rules
 pub mod Grammar
+pub mod Room
 pub mod Requests
 pub mod Written
 pub mod RequestLaws
 pub mod Promises
 pub mod Replies
+pub mod Readings
 pub mod Numbered

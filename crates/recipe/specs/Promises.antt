@@ -1,5 +1,5 @@
 -- The shapes of what the parts of the reader promise one another.
-use Rattle.std.specs.Prelude.{◌≡◌, ℕ, ◌+◌, ◌*◌, ◌<◌, ◌≤◌, min, Bool, ◌&&◌, nat_le, cond, List, [], ◌∷◌, ◌++◌, length, ℤ, pos, negsuc, ◌≤ℤ◌, Some, None, Ok, Err, Option, Result}
+use Rattle.std.specs.Prelude.{◌≡◌, ℕ, ◌+◌, ◌<◌, ◌≤◌, min, Bool, ◌&&◌, nat_le, cond, List, [], ◌∷◌, ◌++◌, length, ℤ, pos, negsuc, ◌≤ℤ◌, Some, None, Ok, Err, Option, Result}
 use Rattle.sets.specs.Sets.{bounds_of}
 use Rattle.recipe.specs.declared.begun.Begun.{Begun}
 use Rattle.recipe.specs.declared.fault.Cause.TheVariants.{FieldCount, WordDue}
@@ -7,8 +7,9 @@ use Rattle.recipe.specs.declared.fault.Fault.{Fault}
 use Rattle.recipe.specs.declared.line.Line.{Line}
 use Rattle.recipe.specs.declared.request.Request.{Request}
 use Rattle.recipe.specs.Fields.{fields_of, lines_of, tail_of}
-use Rattle.recipe.specs.Grammar.{at_hand, fault_at, line_fault, taken}
-use Rattle.stages.specs.Plain.{Plain, plain, lift as a-lift, dep as a-dep, rct as an-rct}
+use Rattle.recipe.specs.Grammar.{Sofar, fault_at, line_fault, taken}
+use Rattle.stages.specs.declared.stage.Stage.{Stage}
+use Rattle.stages.specs.Plain.{Plain, plain}
 use Rattle.recipe.specs.Requests.{shape_from, span_from}
 use Rattle.recipe.specs.Rules.{Form, Rule, same, field, has_fields, first_wrong, rules_of}
 
@@ -64,39 +65,23 @@ wrong_as g l = wrong_from l 1 (rules_of g (fields_in l))
 abbrev pub headed : List ℕ → Form → ℕ → List (List ℕ) → Option Fault
 headed w g line fs = cond (same (field fs 0) w) (cond (has_fields g (length fs)) (first_wrong line fs 1 (rules_of g fs)) (fault_at FieldCount line)) (fault_at WordDue line)
 
--- n lines more have room in the stage at hand
-abbrev pub LinesFit : Option Plain → ℕ → Type 0
-LinesFit None n = n ≡ 0
-LinesFit (Some (a-lift l ss)) n = length ss + n ≤ 4
-LinesFit (Some (a-dep f rs)) n = (length rs + n ≤ 7) × (f + length rs + n ≤ 63)
-LinesFit (Some (an-rct f)) n = n ≡ 0
-
 -- the stage s is begun, and n of its lines are still due
 pub record Begins (s : Plain) (n : ℕ) (b : Begun) : Type 0 where
   pub stage : plain b.stage ≡ s
   pub left : b.left ≡ n
-  pub fits : LinesFit (Some s) n
 
 -- the line l begins the stage b behind the stages ts
 pub record Opened (ts : List Plain) (l : Line) (b : Begun) : Type 0 where
   pub room : length ts < 16
   pub is : taken (record { stages = ts; left = 0 }) (fields_in l) ≡ record { stages = ts ++ plain b.stage ∷ []; left = b.left }
-  pub fits : LinesFit (Some (plain b.stage)) b.left
 
--- the line l is taken where the table holds ts and n lines are due: then it holds us, and m lines are due
-pub record Taken (ts : List Plain) (n : ℕ) (l : Line) (us : List Plain) (m : ℕ) : Type 0 where
-  pub is : taken (record { stages = ts; left = n }) (fields_in l) ≡ record { stages = us; left = m }
-  pub fits : LinesFit (at_hand us) m
-  pub fewer : m + 1 + 8 * length ts ≤ n + 8 * length us
+-- the answer to a line of the stage p at hand: with its step or row the stage is t, whatever stages come before it, and n lines are due then
+abbrev pub Grows : Plain → Line → Result Stage Fault → Type 0
+Grows p l r = (ts : List Plain) (n : ℕ) → Judged (line_fault (record { stages = ts ++ p ∷ []; left = n + 1 }) l.number (fields_in l)) (λ t. taken (record { stages = ts ++ p ∷ []; left = n + 1 }) (fields_in l) ≡ record { stages = ts ++ plain t ∷ []; left = n }) r
 
--- the answer to a line
-abbrev pub Takes : List Plain → ℕ → Line → List Plain → Result ℕ Fault → Type 0
-Takes ts n l us r = Judged (line_fault (record { stages = ts; left = n }) l.number (fields_in l)) (Taken ts n l us) r
-
--- the answer r is that of the text, whose stages the table holds if it has no fault
-abbrev pub Reads : Result (List Plain) Fault → List Plain → Result Unit Fault → Type 0
-Reads o held (Ok u) = o ≡ Ok held
-Reads o held (Err f) = o ≡ Err f
+-- the answer to a line where s is read, and t is read then
+abbrev pub Takes : Sofar → Line → Sofar → Result Unit Fault → Type 0
+Takes s l t r = Judged (line_fault s l.number (fields_in l)) (λ _. taken s (fields_in l) ≡ t) r
 
 -- what a SET line asks for, as it is handed out
 pub record Sets (fs : List (List ℕ)) (q : Request) : Type 0 where

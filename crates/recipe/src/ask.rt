@@ -8,6 +8,7 @@ ghost use Rattle.recipe.specs.Rules.{set};
 use crate::fault::{Cause, Fault};
 use crate::line::Line;
 use crate::lines::first_line;
+use crate::read::recipe_from;
 use crate::request::Request;
 use crate::table::Recipe;
 use sets::shape::Shape;
@@ -58,21 +59,15 @@ fn set_and_recipe(text: &[u8]) -> Result<Request, Fault>
             field: 0,
         });
     };
-    let mut request = set_due(&Line { bytes, number: 1 })?;
-    request.recipe.fill(rest, 2)?;
-    Ok(request)
+    let set = set_due(&Line { bytes, number: 1 })?;
+    let recipe = recipe_from(rest, 2)?;
+    Ok(Request { recipe, ..set })
 }
-
-// Does nothing: its promise is the law of the format.
-fn requests_are_lawful()
-    ensures { RequestLaws }
-{}
 
 // Reads the text of a report: a SET line, and a recipe.
 pub fn request(text: &[u8]) -> Result<Request, Fault>
     ensures answer { answered result ≡ requested text.now }
     ensures law { RequestLaws }
 {
-    requests_are_lawful();
     set_and_recipe(text)
 }

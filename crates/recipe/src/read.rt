@@ -1,24 +1,21 @@
-ghost use Rattle.std.specs.Prelude.{◌+◌, ◌<◌, ◌≤◌, length, if◌then◌else◌, None, nat_lt};
+ghost use Rattle.std.specs.Prelude.{◌≡◌, ◌<◌, ◌≤◌, length, if◌then◌else◌, None, nat_lt};
 ghost use Rattle.recipe.specs.declared.fault.Cause.TheVariants.{FieldCount, StageCount};
 ghost use Rattle.recipe.specs.Fields.{lines_of, tail_of};
-ghost use Rattle.recipe.specs.Grammar.{at_hand, begun, fault_at, line_fault, read_from, reading};
+ghost use Rattle.recipe.specs.Grammar.{begun, fault_at, line_fault, read_from, reading};
 ghost use Rattle.recipe.specs.Written.{ReadingLaws};
 ghost use Rattle.recipe.specs.Tables.{table_of};
-ghost use Rattle.recipe.specs.Promises.{Judged, LinesFit, Opened, Takes, Reads, fields_in, has_behind};
-ghost use Rattle.recipe.specs.Replies.{Answers};
+ghost use Rattle.recipe.specs.Promises.{Judged, Opened, Takes, fields_in, has_behind};
+ghost use Rattle.recipe.specs.Readings.{so_far};
+ghost use Rattle.recipe.specs.Replies.{Answers, by_words};
 
 use crate::begun::Begun;
 use crate::fault::{Cause, Fault};
-use crate::forms::{dep_line, lift_line, rct_line, row_due, step_due};
+use crate::forms::{dep_line, lift_line, rct_line};
+use crate::grow::grown;
 use crate::line::Line;
 use crate::lines::first_line;
+use crate::reading::Reading;
 use crate::table::Recipe;
-use stages::stage::Stage;
-
-// Does nothing: its promise is the law of the format.
-fn recipes_are_lawful()
-    ensures { ReadingLaws }
-{}
 
 impl Recipe {
     // Refuses a stage that has no room, and then a line that has not so many fields behind its word.
@@ -49,92 +46,78 @@ impl Recipe {
         }
         Err(line.fault(Cause::WordDue, 0))
     }
+}
 
-    // Takes a line by which a stage begins; the answer is how many of its lines are still due.
-    fn begin_line(&mut self, line: &Line) -> Result<usize, Fault>
-        ensures { Takes (table_of self.old) 0 line.now (table_of self.new) result }
+impl Reading {
+    // Takes a line by which a stage begins.
+    fn begin(&mut self, line: &Line) -> Result<(), Fault>
+        requires { self.old.left ≡ 0 }
+        ensures { Takes (so_far self.old) line.now (so_far self.new) result }
     {
-        let begun = self.stage_line(line)?;
-        self.begin(begun.stage);
-        Ok(begun.left)
+        let begun = self.recipe.stage_line(line)?;
+        self.recipe.push(begun.stage);
+        self.left = begun.left;
+        Ok(())
     }
 
-    // Takes one of the `left` lines of the stage at hand.
-    fn inside_line(&mut self, line: &Line, left: usize) -> Result<usize, Fault>
-        requires { (0 < left) × (LinesFit (at_hand (table_of self.old)) left) }
-        ensures { Takes (table_of self.old) left line.now (table_of self.new) result }
+    // Takes one of the lines of the stage at hand that are due.
+    fn go_on(&mut self, line: &Line) -> Result<(), Fault>
+        requires { 0 < self.old.left }
+        ensures { Takes (so_far self.old) line.now (so_far self.new) result }
     {
-        let last = self.stages[self.len - 1];
-        match last {
-            Stage::Lift(_) => {
-                let step = step_due(line)?;
-                self.add_step(step);
-                Ok(left - 1)
-            }
-            Stage::Dep(dep) => {
-                let row = row_due(line, dep.count)?;
-                self.add_row(row);
-                Ok(left - 1)
-            }
-            Stage::Rct(_) => Err(line.fault(Cause::WordDue, 0)),
-        }
+        let last = self.recipe.len - 1;
+        let stage = grown(self.recipe.stages[last], line)?;
+        self.left -= 1;
+        self.recipe.stages[last] = stage;
+        Ok(())
     }
 
-    // Takes a line where `left` lines of the stage at hand are due; the answer is how many are due then.
-    fn take_line(&mut self, line: &Line, left: usize) -> Result<usize, Fault>
-        requires { LinesFit (at_hand (table_of self.old)) left }
-        ensures { Takes (table_of self.old) left line.now (table_of self.new) result }
+    // Takes a line.
+    fn take(&mut self, line: &Line) -> Result<(), Fault>
+        ensures { Takes (so_far self.old) line.now (so_far self.new) result }
     {
-        if left == 0 {
-            return self.begin_line(line);
-        }
-        self.inside_line(line, left)
-    }
-
-    // Takes the lines of a text into an empty table; the first has the number `first`.
-    fn take_lines(&mut self, text: &[u8], first: usize) -> Result<(), Fault>
-        requires { first ≤ 2 }
-        ensures { Reads (read_from begun first (lines_of text.now) (tail_of text.now)) (table_of self.new) result }
-    {
-        self.len = 0; // what an earlier text left is let go
-        let mut rest = text;
-        let mut number = first;
-        let mut left = 0;
-        while let Some((bytes, after)) = first_line(rest) {
-            left = self.take_line(&Line { bytes, number }, left)?;
-            rest = after;
-            number += 1;
-        }
-        if rest.is_empty() && left == 0 {
-            return Ok(());
-        }
-        Err(Fault {
-            cause: Cause::EndsInside,
-            line: number,
-            field: 0,
-        })
-    }
-
-    // The recipe of a text whose first line has the number `first`; a refused text leaves the table empty.
-    pub(crate) fn fill(&mut self, text: &[u8], first: usize) -> Result<(), Fault>
-        requires { first ≤ 2 }
-        ensures { Answers (read_from begun first (lines_of text.now) (tail_of text.now)) result (table_of self.new) }
-    {
-        match self.take_lines(text, first) {
-            Ok(()) => Ok(()),
-            Err(fault) => {
-                self.len = 0; // what came before the fault is let go
-                Err(fault)
-            }
+        if self.left == 0 {
+            self.begin(line)
+        } else {
+            self.go_on(line)
         }
     }
+}
 
+// The recipe of a text whose first line has the number `first`.
+pub(crate) fn recipe_from(text: &[u8], first: usize) -> Result<Recipe, Fault>
+    requires { first ≤ 2 }
+    ensures { by_words result ≡ read_from begun first (lines_of text.now) (tail_of text.now) }
+{
+    let mut reading = Reading {
+        recipe: Recipe::new(),
+        left: 0,
+    };
+    let mut rest = text;
+    let mut number = first;
+    while let Some((bytes, after)) = first_line(rest) {
+        reading.take(&Line { bytes, number })?;
+        rest = after;
+        number += 1;
+    }
+    if rest.is_empty() && reading.left == 0 {
+        return Ok(reading.recipe);
+    }
+    Err(Fault {
+        cause: Cause::EndsInside,
+        line: number,
+        field: 0,
+    })
+}
+
+impl Recipe {
     // Reads a recipe. A refused text leaves the table empty.
     pub fn read(&mut self, text: &[u8]) -> Result<(), Fault>
         ensures answer { Answers (reading text.now) result (table_of self.new) }
         ensures law { ReadingLaws }
     {
-        recipes_are_lawful();
-        self.fill(text, 1)
+        self.len = 0; // what an earlier text left is let go
+        *self = recipe_from(text, 1)?;
+        Ok(())
     }
 }

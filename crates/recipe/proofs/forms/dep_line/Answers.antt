@@ -39,5 +39,9 @@ returns c =
     let f : nat_abs (number (fields_in c.args.line.now) 1) ≡ c.in_ok-first.first = ap nat_abs first.is in
     let n : nat_abs (number (fields_in c.args.line.now) 2) ≡ c.in_ok-count.count = ap nat_abs count.1.is in (
       past_first so.In_ok-first ∙ by_greatest so.After-min ∙ count.0,
-      record { stage = ap (λ m. a-dep m []) (sym f); left = ap (λ m. m - 1) (sym n); fits = (omega arith, omega arith) },
+      record { stage = ap (λ m. a-dep m []) (sym f); left = ap (λ m. m - 1) (sym n) },
     )
+
+pub invariant_of-result : goal.invariant_of-result
+unfolding plain
+invariant_of-result c = record { fits = omega (arith, c.in_ok-count.ensures.1.below, c.min.ensures) }

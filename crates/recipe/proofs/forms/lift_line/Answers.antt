@@ -94,6 +94,9 @@ returns c =
             c.in_ok-extension.ensures.1
             (c.parity.ensures ∙ ap (λ z. parity_from (nat_abs z)) (sym c.in_ok-odd.ensures.1.is));
         left = sym n;
-        fits = omega arith;
       },
     )
+
+pub invariant_of-result : goal.invariant_of-result
+unfolding plain
+invariant_of-result c = record { fits = omega (arith, c.in_ok-left.ensures.1.below) }

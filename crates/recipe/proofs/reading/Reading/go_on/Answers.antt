@@ -1,0 +1,58 @@
+use Rattle.std.proofs.Common.{◌≡◌, ◌-◌, ◌<◌, get_or, Some, refl, sym, ap, ◌∙◌, arith, length-set}
+use Rattle.std.proofs.lemmas.Result.{err_from_is_err_and}
+use Rattle.stages.specs.declared.stage.Stage.{Stage}
+use Rattle.stages.specs.Plain.{plain}
+use Rattle.recipe.specs.Grammar.{at_hand, line_fault, taken}
+use Rattle.recipe.specs.Promises.{fields_in}
+use Rattle.recipe.specs.Readings.{so_far}
+use Rattle.recipe.specs.Room.{room_in}
+use Rattle.recipe.specs.Tables.{table_of}
+use Rattle.recipe.proofs.Faults.{judged_err}
+use Rattle.recipe.proofs.Growing.{due, joined}
+use Rattle.recipe.proofs.Tables.{front, ends, set_last, room-last, some_at_hand}
+use Rattle.recipe.proofs.reading.Reading.go_on.Goals as goal
+use Rattle.recipe.proofs.reading.Reading.go_on.Goals.{After-index-self-last, at-grown-requires, at-returns-in_err-stage, at-invariant_of-self-2, at-returns}
+
+room : (c : After-index-self-last) → 0 < room_in (at_hand (table_of c.args.self.now.recipe))
+room c = omega (arith, c.args.self.now.fits)
+
+abbrev last : After-index-self-last → Stage
+last c = get_or c.args.self.now.recipe.stages (c.args.self.now.recipe.len - 1) c.index-self-last.result
+
+-- the stage at hand is the last
+start : (c : After-index-self-last) → so_far c.args.self.now ≡ due (front c.args.self.now.recipe.stages c.args.self.now.recipe.len) (c.args.self.now.left - 1) (plain (last c))
+start c = joined _ _ _ _ (ends c.args.self.now.recipe (room c) (last c) c.index-self-last.result refl) (omega arith)
+
+room-in-last : (c : After-index-self-last) → room_in (at_hand (table_of c.args.self.now.recipe)) ≡ room_in (Some (plain (last c)))
+room-in-last c = room-last _ _ _ (ends c.args.self.now.recipe (room c) (last c) c.index-self-last.result refl)
+
+pub grown-requires : goal.grown-requires
+grown-requires c = omega (arith, room (at-grown-requires c).After-index-self-last, room-in-last (at-grown-requires c).After-index-self-last)
+
+pub returns-in_err-stage : goal.returns-in_err-stage
+returns-in_err-stage c =
+    let line = c.args.line.now in
+    judged_err _ _ c.from_residual.result _ (err_from_is_err_and c.from_residual.result c.from_residual.ensures.1)
+    (ap (λ s. line_fault s line.number (fields_in line)) (start (at-returns-in_err-stage c).After-index-self-last) ∙ c.in_err-stage.ensures.stage _ _)
+
+pub invariant_of-self : goal.invariant_of-self
+invariant_of-self c = record { fits = omega (arith, c.args.self.now.fits) }
+
+pub invariant_of-self-2 : goal.invariant_of-self-2
+invariant_of-self-2 c =
+    let so = (at-invariant_of-self-2 c).After-index-self-last in
+    let r = c.args.self.now.recipe in
+    let some = some_at_hand r (room so) in
+    let e = room-last _ _ _ (set_last r.stages r.len c.in_ok-stage.stage some (omega (arith, r.full, r.short))) in
+    ((length-set _ _ _ ∙ r.full, (r.short, tt)), (omega (arith, e, room-in-last so, c.in_ok-stage.ensures.room, c.args.self.now.fits), tt))
+
+pub returns : goal.returns
+returns c =
+    let so = (at-returns c).After-index-self-last in
+    let line = c.args.line.now in
+    let r = c.args.self.now.recipe in
+    let some = some_at_hand r (room so) in
+    let h = c.in_ok-stage.ensures.stage (front r.stages r.len) (c.args.self.now.left - 1) in (
+      ap (λ s. line_fault s line.number (fields_in line)) (start so) ∙ h.0,
+      ap (λ s. taken s (fields_in line)) (start so) ∙ h.1 ∙ joined _ _ _ _ (sym (set_last r.stages r.len c.in_ok-stage.stage some (omega (arith, r.full, r.short)))) refl,
+    )
