@@ -1,7 +1,8 @@
 -- What is wrong with a field, and the first field that is.
-use Rattle.std.proofs.Common.{◌≡◌, ℕ, ◌+◌, Bool, true, false, cond, ◌&&◌, List, [], ◌∷◌, drop, ℤ, Some, None, Err, Decides, Option, Result, nat_eq, sym, refl, ap, ◌∙◌, subst, inl, inr, arith, rules}
+use Rattle.std.proofs.Common.{◌≡◌, ℕ, ◌+◌, Bool, true, false, cond, ◌&&◌, List, [], ◌∷◌, drop, ℤ, Some, None, Ok, Err, Decides, Option, Result, nat_eq, sym, refl, ap, ◌∙◌, inl, inr, arith, rules}
 use Rattle.std.specs.Int.Signed.{le_z}
 use Rattle.std.specs.Option.{ok_or}
+use Rattle.std.specs.Result.{IsErr, IsErrAnd}
 use Rattle.std.specs.Cmp.Lexicographic.{pointwise}
 use Rattle.std.proofs.lemmas.Slice.Eq.{slice_eq-Decides, compares_Decides}
 use Rattle.std.proofs.lemmas.Int.{ints}
@@ -140,8 +141,9 @@ pub listed_right : (line : ℕ) (fs : List (List ℕ)) (k : ℕ) (ws : List (Lis
 listed_right line fs k ws is m = first_wrong-later line fs k (listed ws) [] (wrong-listed ws (field fs k) is m) ∙ first_wrong-none line fs (k + 1)
 
 -- a fault that is passed on
-pub judged_err : {X : Type 0} (o : Option Fault) (P : X → Type 0) (r : Result X Fault) (f : Fault) → (x : Fault) × (r ≡ Err x) × (x ≡ f) → o ≡ Some f → Judged o P r
-judged_err o P r f p e = let R : Result _ Fault → Type 0 = Judged o P in subst R (sym p.1) (e ∙ ap Some (sym p.2))
+pub passed : {X : Type 0} (o : Option Fault) (P : X → Type 0) (r : Result X Fault) (f : Fault) → IsErr r × IsErrAnd r (λ x. x ≡ f) → o ≡ Some f → Judged o P r
+passed o P (Ok x) f p e = absurd p.1
+passed o P (Err x) f p e = e ∙ ap Some (sym p.1)
 
 -- the first fault of a line of form g, past n of its rules
 abbrev pub past : Form → ℕ → Line → Option Fault

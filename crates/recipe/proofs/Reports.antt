@@ -1,9 +1,10 @@
 -- The text of a report by its first line and what follows.
-use Rattle.std.proofs.Common.{◌≡◌, ℕ, ◌<◌, ◌≤◌, leb, List, ◌∷◌, length, Some, None, Err, codes, Result, sym, refl, ap, ◌∙◌}
+use Rattle.std.proofs.Common.{◌≡◌, ℕ, ◌<◌, ◌≤◌, leb, List, ◌∷◌, length, Some, None, Ok, Err, codes, Result, sym, refl, ap, ◌∙◌}
 use Rattle.std.proofs.lemmas.Bool.{cond-true, cond-false, le-leb, lt-leb}
 use Rattle.recipe.specs.declared.fault.Cause.TheVariants.{EndsInside, TooLong}
 use Rattle.recipe.specs.declared.fault.Fault.{Fault}
 use Rattle.recipe.specs.declared.request.Request.{Request}
+use Rattle.std.specs.Result.{IsErr, IsErrAnd}
 use Rattle.recipe.specs.Fields.{fields_of, lines_of, tail_of}
 use Rattle.recipe.specs.Grammar.{begun, read_from}
 use Rattle.recipe.specs.Promises.{FirstLine, NoLine, headed}
@@ -43,5 +44,6 @@ module _ (t line more : List ℕ) (few : length t ≤ 65536) (first : FirstLine 
   set_right e = split ∙ right_set line _ _ (sym (set_headed _) ∙ e)
 
 -- a fault that is passed on
-pub answered-err : (r : Result Request Fault) (o : Result PlainRequest Fault) (f : Fault) → (x : Fault) × (r ≡ Err x) × (x ≡ f) → o ≡ Err f → answered r ≡ o
-answered-err r o f p e = ap answered p.1 ∙ ap Err p.2 ∙ sym e
+pub answered-err : (r : Result Request Fault) (o : Result PlainRequest Fault) (f : Fault) → IsErr r × IsErrAnd r (λ x. x ≡ f) → o ≡ Err f → answered r ≡ o
+answered-err (Ok x) o f p e = absurd p.1
+answered-err (Err x) o f p e = ap Err p.1 ∙ sym e

@@ -10,6 +10,7 @@ use Rattle.recipe.specs.Fields.{cut, heads, final, lines_of, tail_of, fields_of,
 use Rattle.recipe.specs.Grammar.{Sofar, line_fault, taken, read_from}
 use Rattle.stages.specs.Plain.{Plain}
 use Rattle.recipe.specs.Promises.{FirstLine, NoLine}
+use Rattle.std.specs.Result.{IsErr, IsErrAnd}
 use Rattle.recipe.specs.declared.table.Recipe.{Recipe}
 use Rattle.recipe.specs.Replies.{by_words}
 use Rattle.recipe.proofs.Faults.{some_from_cond, none_from_cond}
@@ -80,5 +81,6 @@ module _ (t : List ℕ) (none : NoLine t) (s : Sofar) (line : ℕ) where
       short (b ∷ bs) ne = refl
 
 -- a fault that is passed on
-pub by_words_err : (o : Result (List Plain) Fault) (r : Result Recipe Fault) (f : Fault) → (x : Fault) × (r ≡ Err x) × (x ≡ f) → o ≡ Err f → by_words r ≡ o
-by_words_err o r f p e = ap by_words p.1 ∙ ap Err p.2 ∙ sym e
+pub by_words_err : (o : Result (List Plain) Fault) (r : Result Recipe Fault) (f : Fault) → IsErr r × IsErrAnd r (λ x. x ≡ f) → o ≡ Err f → by_words r ≡ o
+by_words_err o (Ok x) f p e = absurd p.1
+by_words_err o (Err x) f p e = ap Err p.1 ∙ sym e

@@ -42,6 +42,7 @@ fn set_due(line: &Line) -> Result<Request, Fault>
     set_line(line)
 }
 
+// The answer of `request`, which adds the law of the format to it.
 fn set_and_recipe(text: &[u8]) -> Result<Request, Fault>
     ensures { answered result ≡ requested text.now }
 {

@@ -2,6 +2,7 @@
 #![tactic(auto)]
 
 pub mod ask;
+mod begin;
 mod begun;
 mod checks;
 pub mod entries;
@@ -19,3 +20,4 @@ pub mod reader;
 mod reading;
 pub mod request;
 pub mod table;
+mod take;

@@ -6,7 +6,7 @@ ghost use Rattle.std.proofs.lemmas.List.{length-map, length-take};
 ghost use Rattle.stages.specs.Plain.{plain};
 
 use crate::table::Recipe;
-use stages::stage::{Rct, Stage};
+use stages::stage::Stage;
 use stages::table::Table;
 
 // A recipe's table: a stage is the same for any number of channels.
@@ -22,9 +22,6 @@ impl Table for Recipe {
     }
 
     fn stage(&self, channels: usize, number: usize) -> Stage {
-        let Some(stage) = self.get(number) else {
-            return Stage::Rct(Rct { first: 0 });
-        };
-        stage
+        self.stages()[number]
     }
 }

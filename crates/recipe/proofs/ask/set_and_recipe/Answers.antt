@@ -1,5 +1,4 @@
 use Rattle.std.proofs.Common.{◌≡◌, Ok, sym, ap, ◌∙◌}
-use Rattle.std.proofs.lemmas.Result.{err_from_is_err_and}
 use Rattle.recipe.specs.Fields.{fields_of, lines_of, tail_of}
 use Rattle.recipe.specs.Grammar.{begun, read_from}
 use Rattle.recipe.specs.Requests.{asked, requested}
@@ -20,12 +19,12 @@ returns-in_default c = sym (no_line c.args.text.now c.if-text-gt65536.false c.in
 
 pub returns-in_err-set : goal.returns-in_err-set
 returns-in_err-set c =
-    answered-err c.from_residual.result _ _ (err_from_is_err_and c.from_residual.result c.from_residual.ensures.1)
+    answered-err c.from_residual.result _ _ c.from_residual.ensures
     (set_wrong c.args.text.now _ _ c.if-text-gt65536.false c.in-Some.ensures.cases _ c.in_err-set.ensures)
 
 pub returns-in_err-recipe : goal.returns-in_err-recipe
 returns-in_err-recipe c =
-    answered-err c.from_residual-in_err-recipe.result _ _ (err_from_is_err_and c.from_residual-in_err-recipe.result c.from_residual-in_err-recipe.ensures.1)
+    answered-err c.from_residual-in_err-recipe.result _ _ c.from_residual-in_err-recipe.ensures
     (after-set (at-returns-in_err-recipe c).In_ok-set ∙ ap (asked (fields_of c.in-Some.bytes.now)) (sym c.in_err-recipe.ensures))
 
 pub returns : goal.returns

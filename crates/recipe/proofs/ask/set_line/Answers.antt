@@ -1,10 +1,9 @@
 use Rattle.std.proofs.Common.{◌≡◌, [], ◌∷◌, pos, nat_abs, sym, ap, ◌∙◌, w32, SFits, to_z, of_z, rules}
-use Rattle.std.proofs.lemmas.Result.{err_from_is_err_and}
 use Rattle.std.proofs.lemmas.Int.{to_z-of_z}
 use Rattle.recipe.specs.Promises.{fields_in}
 use Rattle.recipe.specs.Rules.{between, set, first_wrong}
 use Rattle.recipe.proofs.Alike.{alike_shapes, alike_bounds}
-use Rattle.recipe.proofs.Faults.{past, rule_right, rule_wrong, judged_err}
+use Rattle.recipe.proofs.Faults.{past, rule_right, rule_wrong, passed}
 use Rattle.recipe.proofs.ask.set_line.Goals as goal
 use Rattle.recipe.proofs.ask.set_line.Goals.{In_ok-channels, In_ok-samples, In_ok-origin, In_ok-least, at-returns-in_err-samples, at-returns-in_err-origin, at-returns-in_err-least, at-returns-in_err-greatest, at-returns}
 
@@ -30,31 +29,31 @@ by_least c =
 
 pub returns-in_err-channels : goal.returns-in_err-channels
 returns-in_err-channels c =
-    judged_err _ _ c.from_residual.result _ (err_from_is_err_and c.from_residual.result c.from_residual.ensures.1)
+    passed _ _ c.from_residual.result _ c.from_residual.ensures
     (rule_wrong _ _ 1 _ _ _ c.in_err-channels.ensures)
 
 pub returns-in_err-samples : goal.returns-in_err-samples
 returns-in_err-samples c =
     let so = at-returns-in_err-samples c in
-    judged_err _ _ c.from_residual-in_err-samples.result _ (err_from_is_err_and c.from_residual-in_err-samples.result c.from_residual-in_err-samples.ensures.1)
+    passed _ _ c.from_residual-in_err-samples.result _ c.from_residual-in_err-samples.ensures
     (past-channels so.In_ok-channels ∙ rule_wrong _ _ 2 _ _ _ c.in_err-samples.ensures)
 
 pub returns-in_err-origin : goal.returns-in_err-origin
 returns-in_err-origin c =
     let so = at-returns-in_err-origin c in
-    judged_err _ _ c.from_residual-in_err-origin.result _ (err_from_is_err_and c.from_residual-in_err-origin.result c.from_residual-in_err-origin.ensures.1)
+    passed _ _ c.from_residual-in_err-origin.result _ c.from_residual-in_err-origin.ensures
     (past-channels so.In_ok-channels ∙ past-samples so.In_ok-samples ∙ rule_wrong _ _ 3 _ _ _ c.in_err-origin.ensures)
 
 pub returns-in_err-least : goal.returns-in_err-least
 returns-in_err-least c =
     let so = at-returns-in_err-least c in
-    judged_err _ _ c.from_residual-in_err-least.result _ (err_from_is_err_and c.from_residual-in_err-least.result c.from_residual-in_err-least.ensures.1)
+    passed _ _ c.from_residual-in_err-least.result _ c.from_residual-in_err-least.ensures
     (past-channels so.In_ok-channels ∙ past-samples so.In_ok-samples ∙ past-origin so.In_ok-origin ∙ rule_wrong _ _ 4 _ _ _ c.in_err-least.ensures)
 
 pub returns-in_err-greatest : goal.returns-in_err-greatest
 returns-in_err-greatest c =
     let so = at-returns-in_err-greatest c in
-    judged_err _ _ c.from_residual-in_err-greatest.result _ (err_from_is_err_and c.from_residual-in_err-greatest.result c.from_residual-in_err-greatest.ensures.1)
+    passed _ _ c.from_residual-in_err-greatest.result _ c.from_residual-in_err-greatest.ensures
     (past-channels so.In_ok-channels ∙ past-samples so.In_ok-samples ∙ past-origin so.In_ok-origin ∙ past-least so.In_ok-least ∙ by_least so.In_ok-least ∙ c.in_err-greatest.ensures)
 
 pub returns : goal.returns

@@ -1,9 +1,8 @@
 use Rattle.std.proofs.Common.{◌≡◌, ◌-◌, [], ◌∷◌, pos, nat_abs, sym, ap, ◌∙◌, arith}
-use Rattle.std.proofs.lemmas.Result.{err_from_is_err_and}
 use Rattle.stages.specs.Plain.{plain, dep as a-dep}
 use Rattle.recipe.specs.Promises.{fields_in}
 use Rattle.recipe.specs.Rules.{between, dep, first_wrong, number}
-use Rattle.recipe.proofs.Faults.{past, rule_right, rule_wrong, judged_err}
+use Rattle.recipe.proofs.Faults.{past, rule_right, rule_wrong, passed}
 use Rattle.recipe.proofs.Limits.{dep_limit}
 use Rattle.recipe.proofs.forms.dep_line.Goals as goal
 use Rattle.recipe.proofs.forms.dep_line.Goals.{In_ok-first, After-min, at-returns-in_err-count, at-returns}
@@ -19,13 +18,13 @@ by_greatest c =
 
 pub returns-in_err-first : goal.returns-in_err-first
 returns-in_err-first c =
-    judged_err _ _ c.from_residual.result _ (err_from_is_err_and c.from_residual.result c.from_residual.ensures.1)
+    passed _ _ c.from_residual.result _ c.from_residual.ensures
     (rule_wrong _ _ 1 _ _ _ c.in_err-first.ensures)
 
 pub returns-in_err-count : goal.returns-in_err-count
 returns-in_err-count c =
     let so = at-returns-in_err-count c in
-    judged_err _ _ c.from_residual-in_err-count.result _ (err_from_is_err_and c.from_residual-in_err-count.result c.from_residual-in_err-count.ensures.1)
+    passed _ _ c.from_residual-in_err-count.result _ c.from_residual-in_err-count.ensures
     (past_first so.In_ok-first ∙ by_greatest so.After-min ∙ c.in_err-count.ensures)
 
 pub returns : goal.returns

@@ -1,11 +1,10 @@
 use Rattle.std.proofs.Common.{◌≡◌, ◌-◌, ◌∷◌, drop, pos, nat_abs, sym, ap, ◌∙◌, arith}
-use Rattle.std.proofs.lemmas.Result.{err_from_is_err_and}
 use Rattle.recipe.specs.Grammar.{parity_from}
 use Rattle.stages.specs.Plain.{plain}
 use Rattle.recipe.specs.Promises.{fields_in}
 use Rattle.recipe.specs.Rules.{between, lift, first_wrong, rules_of, number}
 use Rattle.recipe.proofs.Alike.{alike_lifts}
-use Rattle.recipe.proofs.Faults.{past, rule_right, rule_wrong, first_wrong-none, judged_err}
+use Rattle.recipe.proofs.Faults.{past, rule_right, rule_wrong, first_wrong-none, passed}
 use Rattle.recipe.proofs.Limits.{rest_limit}
 use Rattle.recipe.proofs.forms.lift_line.Goals as goal
 use Rattle.recipe.proofs.forms.lift_line.Goals.{In_ok-axis, In_ok-first, In_ok-count, In_ok-level, In_ok-extension, In_ok-odd, In_ok-left, at-returns-in_err-first, at-returns-in_err-count, at-returns-in_err-level, at-returns-in_err-extension, at-returns-in_err-odd, at-returns-in_err-left, at-returns}
@@ -41,43 +40,43 @@ past-left c = rule_right _ _ 7 _ _ c.in_ok-left.ensures.0
 
 pub returns-in_err-axis : goal.returns-in_err-axis
 returns-in_err-axis c =
-    judged_err _ _ c.from_residual.result _ (err_from_is_err_and c.from_residual.result c.from_residual.ensures.1)
+    passed _ _ c.from_residual.result _ c.from_residual.ensures
     (rule_wrong _ _ 1 _ _ _ c.in_err-axis.ensures)
 
 pub returns-in_err-first : goal.returns-in_err-first
 returns-in_err-first c =
     let so = at-returns-in_err-first c in
-    judged_err _ _ c.from_residual-in_err-first.result _ (err_from_is_err_and c.from_residual-in_err-first.result c.from_residual-in_err-first.ensures.1)
+    passed _ _ c.from_residual-in_err-first.result _ c.from_residual-in_err-first.ensures
     (past-axis so.In_ok-axis ∙ rule_wrong _ _ 2 _ _ _ c.in_err-first.ensures)
 
 pub returns-in_err-count : goal.returns-in_err-count
 returns-in_err-count c =
     let so = at-returns-in_err-count c in
-    judged_err _ _ c.from_residual-in_err-count.result _ (err_from_is_err_and c.from_residual-in_err-count.result c.from_residual-in_err-count.ensures.1)
+    passed _ _ c.from_residual-in_err-count.result _ c.from_residual-in_err-count.ensures
     (past-axis so.In_ok-axis ∙ past_first so.In_ok-first ∙ by_rest so.In_ok-first ∙ rule_wrong _ _ 3 _ _ _ c.in_err-count.ensures)
 
 pub returns-in_err-level : goal.returns-in_err-level
 returns-in_err-level c =
     let so = at-returns-in_err-level c in
-    judged_err _ _ c.from_residual-in_err-level.result _ (err_from_is_err_and c.from_residual-in_err-level.result c.from_residual-in_err-level.ensures.1)
+    passed _ _ c.from_residual-in_err-level.result _ c.from_residual-in_err-level.ensures
     (past-axis so.In_ok-axis ∙ past_first so.In_ok-first ∙ by_rest so.In_ok-first ∙ past-count so.In_ok-count ∙ rule_wrong _ _ 4 _ _ _ c.in_err-level.ensures)
 
 pub returns-in_err-extension : goal.returns-in_err-extension
 returns-in_err-extension c =
     let so = at-returns-in_err-extension c in
-    judged_err _ _ c.from_residual-in_err-extension.result _ (err_from_is_err_and c.from_residual-in_err-extension.result c.from_residual-in_err-extension.ensures.1)
+    passed _ _ c.from_residual-in_err-extension.result _ c.from_residual-in_err-extension.ensures
     (past-axis so.In_ok-axis ∙ past_first so.In_ok-first ∙ by_rest so.In_ok-first ∙ past-count so.In_ok-count ∙ past-level so.In_ok-level ∙ rule_wrong _ _ 5 _ _ _ c.in_err-extension.ensures)
 
 pub returns-in_err-odd : goal.returns-in_err-odd
 returns-in_err-odd c =
     let so = at-returns-in_err-odd c in
-    judged_err _ _ c.from_residual-in_err-odd.result _ (err_from_is_err_and c.from_residual-in_err-odd.result c.from_residual-in_err-odd.ensures.1)
+    passed _ _ c.from_residual-in_err-odd.result _ c.from_residual-in_err-odd.ensures
     (past-axis so.In_ok-axis ∙ past_first so.In_ok-first ∙ by_rest so.In_ok-first ∙ past-count so.In_ok-count ∙ past-level so.In_ok-level ∙ past-extension so.In_ok-extension ∙ rule_wrong _ _ 6 _ _ _ c.in_err-odd.ensures)
 
 pub returns-in_err-left : goal.returns-in_err-left
 returns-in_err-left c =
     let so = at-returns-in_err-left c in
-    judged_err _ _ c.from_residual-in_err-left.result _ (err_from_is_err_and c.from_residual-in_err-left.result c.from_residual-in_err-left.ensures.1)
+    passed _ _ c.from_residual-in_err-left.result _ c.from_residual-in_err-left.ensures
     (past-axis so.In_ok-axis ∙ past_first so.In_ok-first ∙ by_rest so.In_ok-first ∙ past-count so.In_ok-count ∙ past-level so.In_ok-level ∙ past-extension so.In_ok-extension ∙ past-odd so.In_ok-odd ∙ rule_wrong _ _ 7 _ _ _ c.in_err-left.ensures)
 
 pub returns : goal.returns

@@ -1,12 +1,11 @@
 use Rattle.std.proofs.Common.{◌≡◌, ◌-◌, length, pos, nat_abs, sym, ap, ◌∙◌, arith, w32, SFits, rules}
 use Rattle.stages.specs.Channels.{half_of}
-use Rattle.std.proofs.lemmas.Result.{err_from_is_err_and}
 use Rattle.std.proofs.lemmas.Int.{to_z-of_z}
 use Rattle.recipe.specs.Grammar.{numbers}
 use Rattle.recipe.specs.Promises.{fields_in}
 use Rattle.recipe.specs.Rules.{row}
 use Rattle.recipe.proofs.Alike.{alike_rows}
-use Rattle.recipe.proofs.Faults.{past, rule_right, rule_wrong, judged_err}
+use Rattle.recipe.proofs.Faults.{past, rule_right, rule_wrong, passed}
 use Rattle.recipe.proofs.forms.row_line.Goals as goal
 use Rattle.recipe.proofs.forms.row_line.Goals.{In_ok-exponent, at-returns-in_err-taps, at-returns}
 
@@ -15,12 +14,12 @@ past-exponent c = rule_right _ _ 1 _ _ c.in_ok-exponent.ensures.0
 
 pub returns-in_err-exponent : goal.returns-in_err-exponent
 returns-in_err-exponent c =
-    judged_err _ _ c.from_residual.result _ (err_from_is_err_and c.from_residual.result c.from_residual.ensures.1)
+    passed _ _ c.from_residual.result _ c.from_residual.ensures
     (rule_wrong _ _ 1 _ _ _ c.in_err-exponent.ensures)
 
 pub returns-in_err-taps : goal.returns-in_err-taps
 returns-in_err-taps c =
-    judged_err _ _ c.from_residual-in_err-taps.result _ (err_from_is_err_and c.from_residual-in_err-taps.result c.from_residual-in_err-taps.ensures.1)
+    passed _ _ c.from_residual-in_err-taps.result _ c.from_residual-in_err-taps.ensures
     (past-exponent (at-returns-in_err-taps c).In_ok-exponent ∙ c.in_err-taps.ensures)
 
 pub returns : goal.returns

@@ -1,11 +1,10 @@
 use Rattle.std.proofs.Common.{◌≡◌, ◌-◌, length, replicate, nat_abs, sym, ap, ◌∙◌, arith, w32, SFits, rules}
-use Rattle.std.proofs.lemmas.Result.{err_from_is_err_and}
 use Rattle.std.proofs.lemmas.Int.{to_z-of_z}
 use Rattle.recipe.specs.Grammar.{numbers}
 use Rattle.recipe.specs.Promises.{fields_in}
 use Rattle.recipe.specs.Rules.{step, tap_rule, first_wrong}
 use Rattle.recipe.proofs.Alike.{alike_steps}
-use Rattle.recipe.proofs.Faults.{past, rule_right, rule_wrong, judged_err}
+use Rattle.recipe.proofs.Faults.{past, rule_right, rule_wrong, passed}
 use Rattle.recipe.proofs.forms.step_line.Goals as goal
 use Rattle.recipe.proofs.forms.step_line.Goals.{In_ok-offset, In_ok-exponent, In_ok-residue, at-returns-in_err-exponent, at-returns-in_err-residue, at-returns-in_err-taps, at-returns}
 
@@ -27,25 +26,25 @@ by_taps c =
 
 pub returns-in_err-offset : goal.returns-in_err-offset
 returns-in_err-offset c =
-    judged_err _ _ c.from_residual.result _ (err_from_is_err_and c.from_residual.result c.from_residual.ensures.1)
+    passed _ _ c.from_residual.result _ c.from_residual.ensures
     (rule_wrong _ _ 1 _ _ _ c.in_err-offset.ensures)
 
 pub returns-in_err-exponent : goal.returns-in_err-exponent
 returns-in_err-exponent c =
     let so = at-returns-in_err-exponent c in
-    judged_err _ _ c.from_residual-in_err-exponent.result _ (err_from_is_err_and c.from_residual-in_err-exponent.result c.from_residual-in_err-exponent.ensures.1)
+    passed _ _ c.from_residual-in_err-exponent.result _ c.from_residual-in_err-exponent.ensures
     (past-offset so.In_ok-offset ∙ rule_wrong _ _ 2 _ _ _ c.in_err-exponent.ensures)
 
 pub returns-in_err-residue : goal.returns-in_err-residue
 returns-in_err-residue c =
     let so = at-returns-in_err-residue c in
-    judged_err _ _ c.from_residual-in_err-residue.result _ (err_from_is_err_and c.from_residual-in_err-residue.result c.from_residual-in_err-residue.ensures.1)
+    passed _ _ c.from_residual-in_err-residue.result _ c.from_residual-in_err-residue.ensures
     (past-offset so.In_ok-offset ∙ past-exponent so.In_ok-exponent ∙ rule_wrong _ _ 3 _ _ _ c.in_err-residue.ensures)
 
 pub returns-in_err-taps : goal.returns-in_err-taps
 returns-in_err-taps c =
     let so = at-returns-in_err-taps c in
-    judged_err _ _ c.from_residual-in_err-taps.result _ (err_from_is_err_and c.from_residual-in_err-taps.result c.from_residual-in_err-taps.ensures.1)
+    passed _ _ c.from_residual-in_err-taps.result _ c.from_residual-in_err-taps.ensures
     (past-offset so.In_ok-offset ∙ past-exponent so.In_ok-exponent ∙ past-residue so.In_ok-residue ∙ by_taps so.In_ok-residue ∙ c.in_err-taps.ensures)
 
 pub returns : goal.returns

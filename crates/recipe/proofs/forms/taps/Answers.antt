@@ -1,17 +1,16 @@
 use Rattle.std.proofs.Common.{◌≡◌, ◌+◌, ◌-◌, take, replicate, sym, ap, ◌∙◌, arith, length-set, w16, w32, SFits, to_z, of_z, rules}
-use Rattle.std.proofs.lemmas.Result.{err_from_is_err_and}
 use Rattle.std.proofs.lemmas.Int.{ints}
 use Rattle.recipe.specs.Grammar.{numbers}
 use Rattle.recipe.specs.Promises.{fields_in}
 use Rattle.recipe.specs.Rules.{tap_rule, first_wrong}
-use Rattle.recipe.proofs.Faults.{judged_err, first_wrong-none}
+use Rattle.recipe.proofs.Faults.{passed, first_wrong-none}
 use Rattle.recipe.proofs.TapRules.{rules_next, rules_wrong, numbers_more}
 use Rattle.recipe.proofs.forms.taps.Goals as goal
 
 pub returns-in_err-tap : goal.returns-in_err-tap
 returns-in_err-tap c =
     let line = c.args.line.now in
-    judged_err _ _ c.from_residual.result _ (err_from_is_err_and c.from_residual.result c.from_residual.ensures.1)
+    passed _ _ c.from_residual.result _ c.from_residual.ensures
     (c.loop-i.invariant.2 ∙ rules_wrong line.number (fields_in line) c.args.from c.args.n c.loop-i.i tap_rule c.loop-i-test.true _ c.in_err-tap.ensures)
 
 pub loop-i-preserved : goal.loop-i-preserved

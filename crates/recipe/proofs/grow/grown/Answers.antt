@@ -1,9 +1,8 @@
 use Rattle.std.proofs.Common.{◌≡◌, ◌+◌, ◌-◌, ◌<◌, min, Some, sym, ap, ◌∙◌, arith, length-set}
-use Rattle.std.proofs.lemmas.Result.{err_from_is_err_and}
 use Rattle.stages.specs.Plain.{lift, dep, plain, plain_lift}
 use Rattle.recipe.specs.Promises.{fields_in}
 use Rattle.recipe.specs.Room.{room_in}
-use Rattle.recipe.proofs.Faults.{judged_err}
+use Rattle.recipe.proofs.Faults.{passed}
 use Rattle.recipe.proofs.Growing.{done, lift_fault, lift_taken, dep_fault, dep_taken, steps-more, rows-more}
 use Rattle.recipe.proofs.Openings.{inside_rct}
 use Rattle.recipe.proofs.Tables.{at_hand-last, rct_plain, room_lift, room_dep}
@@ -19,7 +18,7 @@ few-rows c = let e = ap (λ s. room_in (Some (plain s))) c.in-Dep.is ∙ room_de
 
 pub returns-in_err-step-in-Lift-clause-stage : goal.returns-in_err-step-in-Lift-clause-stage
 returns-in_err-step-in-Lift-clause-stage c = λ ts n.
-    judged_err _ _ c.from_residual.result _ (err_from_is_err_and c.from_residual.result c.from_residual.ensures.1)
+    passed _ _ c.from_residual.result _ c.from_residual.ensures
     (rw c.in-Lift.is (lift_fault c.in-Lift.lift ts n c.args.line.now.number (fields_in c.args.line.now)) ∙ c.in_err-step-in-Lift.ensures)
 
 pub listed : goal.listed
@@ -38,7 +37,7 @@ row_due-requires c = omega (arith, few-rows c)
 
 pub returns-in_err-row-in-Dep-clause-stage : goal.returns-in_err-row-in-Dep-clause-stage
 returns-in_err-row-in-Dep-clause-stage c = λ ts n.
-    judged_err _ _ c.from_residual-in_err-row-in-Dep.result _ (err_from_is_err_and c.from_residual-in_err-row-in-Dep.result c.from_residual-in_err-row-in-Dep.ensures.1)
+    passed _ _ c.from_residual-in_err-row-in-Dep.result _ c.from_residual-in_err-row-in-Dep.ensures
     (rw c.in-Dep.is (dep_fault c.in-Dep.dep ts n c.args.line.now.number (fields_in c.args.line.now)) ∙ c.in_err-row-in-Dep.ensures)
 
 pub listed-in-Dep : goal.listed-in-Dep

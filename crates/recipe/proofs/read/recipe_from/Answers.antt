@@ -1,6 +1,5 @@
 use Rattle.std.proofs.Common.{◌+◌, sym, ap, ◌∙◌, arith}
 use Rattle.std.proofs.lemmas.Bool.{eqb-true, eqb-false}
-use Rattle.std.proofs.lemmas.Result.{err_from_is_err_and}
 use Rattle.recipe.specs.Fields.{lines_of, tail_of}
 use Rattle.recipe.specs.Grammar.{read_from}
 use Rattle.recipe.proofs.Texts.{read_next, read_fault, read_done, read_short, by_words_err}
@@ -9,7 +8,7 @@ use Rattle.recipe.proofs.read.recipe_from.Goals.{else-is_empty-via-then-is_empty
 
 pub returns-in_err-take : goal.returns-in_err-take
 returns-in_err-take c =
-    by_words_err _ c.from_residual.result _ (err_from_is_err_and c.from_residual.result c.from_residual.ensures.1)
+    by_words_err _ c.from_residual.result _ c.from_residual.ensures
     (c.loop-bytes.invariant.1 ∙ read_fault c.loop-bytes.rest.now _ _ c.in-Some.ensures.cases _ _ _ c.in_err-take.ensures)
 
 pub loop-bytes-preserved : goal.loop-bytes-preserved

@@ -1,5 +1,4 @@
 use Rattle.std.proofs.Common.{◌≡◌, ◌-◌, ◌<◌, get_or, Some, refl, sym, ap, ◌∙◌, arith, length-set}
-use Rattle.std.proofs.lemmas.Result.{err_from_is_err_and}
 use Rattle.stages.specs.declared.stage.Stage.{Stage}
 use Rattle.stages.specs.Plain.{plain}
 use Rattle.recipe.specs.Grammar.{at_hand, line_fault, taken}
@@ -7,7 +6,7 @@ use Rattle.recipe.specs.Promises.{fields_in}
 use Rattle.recipe.specs.Readings.{so_far}
 use Rattle.recipe.specs.Room.{room_in}
 use Rattle.recipe.specs.Tables.{table_of}
-use Rattle.recipe.proofs.Faults.{judged_err}
+use Rattle.recipe.proofs.Faults.{passed}
 use Rattle.recipe.proofs.Growing.{due, joined}
 use Rattle.recipe.proofs.Tables.{front, ends, set_last, room-last, some_at_hand}
 use Rattle.recipe.proofs.reading.Reading.go_on.Goals as goal
@@ -32,7 +31,7 @@ grown-requires c = omega (arith, room (at-grown-requires c).After-index-self-las
 pub returns-in_err-stage : goal.returns-in_err-stage
 returns-in_err-stage c =
     let line = c.args.line.now in
-    judged_err _ _ c.from_residual.result _ (err_from_is_err_and c.from_residual.result c.from_residual.ensures.1)
+    passed _ _ c.from_residual.result _ c.from_residual.ensures
     (ap (λ s. line_fault s line.number (fields_in line)) (start (at-returns-in_err-stage c).After-index-self-last) ∙ c.in_err-stage.ensures.stage _ _)
 
 pub invariant_of-self : goal.invariant_of-self

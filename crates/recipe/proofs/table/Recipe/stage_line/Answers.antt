@@ -1,10 +1,9 @@
 use Rattle.std.proofs.Common.{Some, sym, refl, ap, ◌∙◌}
-use Rattle.std.proofs.lemmas.Result.{err_from_is_err_and}
 use Rattle.recipe.specs.Fields.{is_word}
 use Rattle.recipe.specs.Tables.{table_of}
 use Rattle.recipe.specs.Promises.{fields_in}
 use Rattle.recipe.specs.Rules.{lift, dep, rct, field}
-use Rattle.recipe.proofs.Faults.{judged_err}
+use Rattle.recipe.proofs.Faults.{passed}
 use Rattle.recipe.proofs.Openings.{just, begun-lift, begun-dep, begun-rct, begun-none, begins_fault, begins_judged, begins_none}
 use Rattle.recipe.proofs.table.Recipe.stage_line.Goals as goal
 
@@ -14,7 +13,7 @@ begins-requires c = refl
 
 pub returns-in_err-holds : goal.returns-in_err-holds
 returns-in_err-holds c =
-    judged_err _ _ c.from_residual.result _ (err_from_is_err_and c.from_residual.result c.from_residual.ensures.1)
+    passed _ _ c.from_residual.result _ c.from_residual.ensures
     (begins_fault (table_of c.args.self.now) c.args.line.now lift (begun-lift (field (fields_in c.args.line.now) 0) (sym c.if-begins.ensures)) _ (just 7 _) _ c.in_err-holds.ensures)
 
 pub returns-then-begins : goal.returns-then-begins
@@ -27,7 +26,7 @@ begins-requires-2 c = refl
 
 pub returns-in_err-holds-2 : goal.returns-in_err-holds-2
 returns-in_err-holds-2 c =
-    judged_err _ _ c.from_residual-in_err-holds-2.result _ (err_from_is_err_and c.from_residual-in_err-holds-2.result c.from_residual-in_err-holds-2.ensures.1)
+    passed _ _ c.from_residual-in_err-holds-2.result _ c.from_residual-in_err-holds-2.ensures
     (begins_fault (table_of c.args.self.now) c.args.line.now dep (begun-dep (field (fields_in c.args.line.now) 0) (sym c.if-begins.ensures) (sym c.if-begins-2.ensures)) _ (just 2 _) _ c.in_err-holds-2.ensures)
 
 pub returns-then-begins-2 : goal.returns-then-begins-2
@@ -40,7 +39,7 @@ begins-requires-3 c = refl
 
 pub returns-in_err-holds-3 : goal.returns-in_err-holds-3
 returns-in_err-holds-3 c =
-    judged_err _ _ c.from_residual-in_err-holds-3.result _ (err_from_is_err_and c.from_residual-in_err-holds-3.result c.from_residual-in_err-holds-3.ensures.1)
+    passed _ _ c.from_residual-in_err-holds-3.result _ c.from_residual-in_err-holds-3.ensures
     (begins_fault (table_of c.args.self.now) c.args.line.now rct (begun-rct (field (fields_in c.args.line.now) 0) (sym c.if-begins.ensures) (sym c.if-begins-2.ensures) (sym c.if-begins-3.ensures)) _ (just 1 _) _ c.in_err-holds-3.ensures)
 
 pub returns-then-begins-3 : goal.returns-then-begins-3

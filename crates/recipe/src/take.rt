@@ -1,0 +1,44 @@
+ghost use Rattle.std.specs.Prelude.{◌≡◌, ◌<◌};
+ghost use Rattle.recipe.specs.Promises.{Takes};
+ghost use Rattle.recipe.specs.Readings.{so_far};
+
+use crate::fault::Fault;
+use crate::grow::grown;
+use crate::line::Line;
+use crate::reading::Reading;
+
+impl Reading {
+    // Takes a line by which a stage begins.
+    fn begin(&mut self, line: &Line) -> Result<(), Fault>
+        requires { self.old.left ≡ 0 }
+        ensures { Takes (so_far self.old) line.now (so_far self.new) result }
+    {
+        let begun = self.recipe.stage_line(line)?;
+        self.recipe.push(begun.stage);
+        self.left = begun.left;
+        Ok(())
+    }
+
+    // Takes one of the lines of the stage at hand that are due.
+    fn go_on(&mut self, line: &Line) -> Result<(), Fault>
+        requires { 0 < self.old.left }
+        ensures { Takes (so_far self.old) line.now (so_far self.new) result }
+    {
+        let last = self.recipe.len - 1;
+        let stage = grown(self.recipe.stages[last], line)?;
+        self.left -= 1;
+        self.recipe.stages[last] = stage;
+        Ok(())
+    }
+
+    // Takes a line.
+    pub(crate) fn take(&mut self, line: &Line) -> Result<(), Fault>
+        ensures { Takes (so_far self.old) line.now (so_far self.new) result }
+    {
+        if self.left == 0 {
+            self.begin(line)
+        } else {
+            self.go_on(line)
+        }
+    }
+}
