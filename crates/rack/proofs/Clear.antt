@@ -1,12 +1,13 @@
 -- What is known where a call is refused nothing, and where a stage is ready.
-use Rattle.std.proofs.Common.{◌≡◌, ℕ, ◌≤◌, true, leb, List, length, None, Option, ap, ◌∙◌, mul-le-mul}
+use Rattle.std.proofs.Common.{◌≡◌, ℕ, ◌≤◌, true, leb, List, length, is_some, None, Option, ap, ◌∙◌, mul-le-mul}
+use Rattle.std.specs.Prelude.{unwrap_or}
 use Rattle.std.proofs.lemmas.Bool.{and_parts, and_from, eqb-true, eq-eqb, ltb-true, lt-ltb, leb-true, le-leb}
 use Rattle.sets.specs.declared.bounds.Bounds.{Bounds}
 use Rattle.sets.specs.declared.refusal.Refusal.{Refusal}
 use Rattle.sets.specs.declared.shape.Shape.{Shape}
 use Rattle.sets.specs.Areas.{size_of}
 use Rattle.sets.specs.Sets.{in_limits}
-use Rattle.rack.specs.Calls.{stage_refused, width_refused, list_refused, spans_refused, area_refused, is_made, made_or}
+use Rattle.rack.specs.Calls.{stage_refused, width_refused, list_refused, spans_refused, area_refused}
 use Rattle.rack.specs.Meanings.{Meaning, Suits, Ready}
 use Rattle.rack.proofs.Refusing.{unless-none, unless-passed, some_from_made}
 
@@ -52,10 +53,10 @@ pub stage_unrefused : (m : Meaning) (f : Shape) (k : ℕ) (rest : Option Refusal
 stage_unrefused m f k rest s = unless-passed _ _ _ (lt-ltb k m.stages s.below) ∙ unless-passed _ _ rest s.fit
 
 -- the stage and the width of its spans refuse nothing
-ready_from_none : (m : Meaning) (f : Shape) (k : ℕ) (bs : List Bounds) → in_limits f ≡ true → length bs ≡ f.channels → stage_refused m f k (width_refused m f k bs) ≡ None → Ready m f k bs (made_or (m.widened f k bs) bs)
+ready_from_none : (m : Meaning) (f : Shape) (k : ℕ) (bs : List Bounds) → in_limits f ≡ true → length bs ≡ f.channels → stage_refused m f k (width_refused m f k bs) ≡ None → Ready m f k bs (unwrap_or (m.widened f k bs) bs)
 ready_from_none m f k bs shape many h =
     let suits = suits_from_none m f k (width_refused m f k bs) shape h in
-    let made = unless-none (is_made (m.widened f k bs)) _ _ suits.1 in
+    let made = unless-none (is_some (m.widened f k bs)) _ _ suits.1 in
     record { suits = suits.0; many = many; makes = some_from_made (m.widened f k bs) bs made.0 }
 
 -- where list, spans, apply or undo are refused nothing, what they ask for holds
@@ -63,7 +64,7 @@ pub list_clear : (m : Meaning) (f : Shape) (k : ℕ) → list_refused m f k ≡ 
 unfolding list_refused
 list_clear m f k h = let shape = unless-none _ _ _ h in (suits_from_none m f k None shape.0 shape.1).0
 
-pub spans_clear : (m : Meaning) (f : Shape) (k : ℕ) (bs : List Bounds) → spans_refused m f k bs ≡ None → Ready m f k bs (made_or (m.widened f k bs) bs)
+pub spans_clear : (m : Meaning) (f : Shape) (k : ℕ) (bs : List Bounds) → spans_refused m f k bs ≡ None → Ready m f k bs (unwrap_or (m.widened f k bs) bs)
 unfolding spans_refused
 spans_clear m f k bs h =
     let shape = unless-none _ _ _ h in
@@ -71,7 +72,7 @@ spans_clear m f k bs h =
     ready_from_none m f k bs shape.0 (eqb-true (length bs) f.channels count.0) count.1
 
 pub record AreaClear (m : Meaning) (f : Shape) (k : ℕ) (bs : List Bounds) (n : ℕ) : Type 0 where
-  pub ready : Ready m f k bs (made_or (m.widened f k bs) bs)
+  pub ready : Ready m f k bs (unwrap_or (m.widened f k bs) bs)
   pub long : n ≡ size_of f
 
 pub area_clear : (m : Meaning) (f : Shape) (k : ℕ) (bs : List Bounds) (n : ℕ) → area_refused m f k bs n ≡ None → AreaClear m f k bs n
@@ -94,10 +95,10 @@ pub spans_unrefused : (m : Meaning) (f : Shape) (k : ℕ) (bs cs : List Bounds) 
 unfolding spans_refused
 spans_unrefused m f k bs cs r =
     unless-passed _ _ _ r.suits.shape ∙ unless-passed _ _ _ (eq-eqb (length bs) f.channels r.many) ∙ stage_unrefused m f k _ r.suits ∙
-    unless-passed _ _ _ (ap is_made r.makes)
+    unless-passed _ _ _ (ap is_some r.makes)
 
 pub area_unrefused : (m : Meaning) (f : Shape) (k : ℕ) (bs cs : List Bounds) (n : ℕ) → Ready m f k bs cs → n ≡ size_of f → area_refused m f k bs n ≡ None
 unfolding area_refused
 area_unrefused m f k bs cs n r long =
     unless-passed _ _ _ r.suits.shape ∙ unless-passed _ _ _ (eq-eqb (length bs) f.channels r.many) ∙ unless-passed _ _ _ (eq-eqb n (size_of f) long) ∙
-    stage_unrefused m f k _ r.suits ∙ unless-passed _ _ _ (ap is_made r.makes)
+    stage_unrefused m f k _ r.suits ∙ unless-passed _ _ _ (ap is_some r.makes)

@@ -1,8 +1,9 @@
 -- What a call's answer tells of the first refusal, and what each test on the way to it tells.
 use Rattle.std.proofs.Common.{◌≡◌, ℕ, Bool, true, false, cond, List, Some, None, Ok, Err, Option, Result, refl, ap, arith}
+use Rattle.std.specs.Prelude.{is_some, unwrap_or}
 use Rattle.sets.specs.declared.bounds.Bounds.{Bounds}
 use Rattle.sets.specs.declared.refusal.Refusal.{Refusal}
-use Rattle.rack.specs.Calls.{unless, answered, is_made, made_or}
+use Rattle.rack.specs.Calls.{unless, answered}
 
 -- where there is no refusal each test has passed
 pub unless-none : (b : Bool) (e : Refusal) (rest : Option Refusal) → unless b e rest ≡ None → (b ≡ true) × (rest ≡ None)
@@ -29,10 +30,10 @@ true_from_ok true e h = refl
 true_from_ok false e h = let z : ◌≡◌ {A = ℕ} 0 1 = cc in absurd (omega arith)
 
 -- a rule on spans that makes some
-pub some_from_made : (o : Option (List Bounds)) (bs : List Bounds) → is_made o ≡ true → o ≡ Some (made_or o bs)
+pub some_from_made : (o : Option (List Bounds)) (bs : List Bounds) → is_some o ≡ true → o ≡ Some (unwrap_or o bs)
 some_from_made None bs h = let z : ◌≡◌ {A = ℕ} 0 1 = cc in absurd (omega arith)
 some_from_made (Some cs) bs h = refl
 
-pub none_from_not_made : (o : Option (List Bounds)) → is_made o ≡ false → o ≡ None
+pub none_from_not_made : (o : Option (List Bounds)) → is_some o ≡ false → o ≡ None
 none_from_not_made None h = refl
 none_from_not_made (Some cs) h = let z : ◌≡◌ {A = ℕ} 0 1 = cc in absurd (omega arith)

@@ -1,5 +1,5 @@
 -- What the calls of a rack answer, and what lists and areas then hold.
-use Rattle.std.specs.Prelude.{◌≡◌, ℕ, ◌<◌, ◌≤◌, Bool, true, false, cond, List, length, ℤ, Some, None, Ok, Err, Option, Result, ◌==◌, ◌≢◌, nat_lt, slice_index}
+use Rattle.std.specs.Prelude.{◌≡◌, ℕ, ◌<◌, ◌≤◌, Bool, true, false, cond, List, length, ℤ, Some, None, Ok, Err, Option, Result, ◌==◌, ◌≢◌, is_some, nat_lt, slice_index, unwrap_or}
 use Rattle.sets.specs.declared.bounds.Bounds.{Bounds}
 use Rattle.sets.specs.declared.refusal.Refusal.{Refusal}
 use Rattle.sets.specs.declared.refusal.Refusal.TheVariants.{BadShape, SpanCount, AreaLength, NoSuchStage, DoesNotFit, TooWide, OutsideSpan, Foreign}
@@ -13,21 +13,12 @@ abbrev pub unless : Bool → Refusal → Option Refusal → Option Refusal
 unless true e rest = rest
 unless false e rest = Some e
 
--- whether the rule on spans makes spans, and which; where it makes none the old ones stay
-abbrev pub is_made : Option (List Bounds) → Bool
-is_made None = false
-is_made (Some cs) = true
-
-abbrev pub made_or : Option (List Bounds) → List Bounds → List Bounds
-made_or None bs = bs
-made_or (Some cs) bs = cs
-
 -- no such stage, a stage that does not fit, and then the rest
 abbrev pub stage_refused : Meaning → Shape → ℕ → Option Refusal → Option Refusal
 stage_refused m f k rest = unless (nat_lt k m.stages) NoSuchStage (unless (m.fits f.channels k) DoesNotFit rest)
 
 abbrev pub width_refused : Meaning → Shape → ℕ → List Bounds → Option Refusal
-width_refused m f k bs = unless (is_made (m.widened f k bs)) TooWide None
+width_refused m f k bs = unless (is_some (m.widened f k bs)) TooWide None
 
 -- what list, spans, and both apply and undo are refused for, before a sample is looked at, in this order
 unfoldable pub list_refused : Meaning → Shape → ℕ → Option Refusal
@@ -47,7 +38,7 @@ answered (Some e) = Err e
 -- what a call of spans leaves in the list
 abbrev pub spans_left : Meaning → Shape → ℕ → List Bounds → Option Refusal → List Bounds
 spans_left m f k bs (Some e) = bs
-spans_left m f k bs None = made_or (m.widened f k bs) bs
+spans_left m f k bs None = unwrap_or (m.widened f k bs) bs
 
 -- apply's answer r, and ys, what the area xs then holds
 abbrev pub ApplyAnswer : Meaning → Shape → ℕ → List Bounds → List ℤ → Option Refusal → Result Unit Refusal → List ℤ → Type 0

@@ -24,6 +24,7 @@ pub trait Rack: Stages {
     }
 
     // Refused where a stage cannot be applied to, nor undone in, an area of so many samples with these spans.
+    #[tactic(auto, unfolding(crate::specs::Calls::area_refused))]
     fn ready(
         &self,
         shape: &Shape,
@@ -33,35 +34,26 @@ pub trait Rack: Stages {
     ) -> Result<(), Refusal>
         ensures { result ≡ answered (area_refused (meaning Self.Stages self.now) shape.now number (rows_of spans.now) size) }
     {
-        if let Err(e) = shape.check() {
-            return Err(e);
-        }
+        shape.check()?;
         if spans.len() != shape.channels {
             return Err(Refusal::SpanCount);
         }
         if size != shape.channels * shape.samples {
             return Err(Refusal::AreaLength);
         }
-        if let Err(e) = self.asked(shape, number) {
-            return Err(e);
-        }
-        let mut after = *spans;
-        if !self.widen(shape, number, &mut after) {
-            return Err(Refusal::TooWide);
-        }
+        self.asked(shape, number)?;
+        self.widen(shape, number, spans).ok_or(Refusal::TooWide)?;
         Ok(())
     }
 
     // Writes the channels that a stage lists to the front of the list, and answers how many there are.
+    #[tactic(auto, unfolding(crate::specs::Calls::list_refused))]
     fn list(&self, shape: &Shape, number: usize, list: &mut [u8; 64]) -> Result<usize, Refusal>
         ensures { Lists (meaning Self.Stages self.now) shape.now number list.old result list.new }
     {
-        if let Err(e) = shape.check() {
-            return Err(e);
-        }
-        if let Err(e) = self.asked(shape, number) {
-            return Err(e);
-        }
+        shape.check()?;
+        self.asked(shape, number)?;
+        // Counted by hand: n is the next free place and the answer, and a chain would count the places beside its items too.
         let mut n = 0;
         for c in 0..shape.channels {
             if self.lists(shape, number, c) {
@@ -73,21 +65,16 @@ pub trait Rack: Stages {
     }
 
     // Puts the spans that a stage makes in the place of these.
+    #[tactic(auto, unfolding(crate::specs::Calls::spans_refused))]
     fn spans(&self, shape: &Shape, number: usize, spans: &mut SpanList) -> Result<(), Refusal>
         ensures { Widens (meaning Self.Stages self.now) shape.now number (rows_of spans.old) result (rows_of spans.new) }
     {
-        if let Err(e) = shape.check() {
-            return Err(e);
-        }
+        shape.check()?;
         if spans.len() != shape.channels {
             return Err(Refusal::SpanCount);
         }
-        if let Err(e) = self.asked(shape, number) {
-            return Err(e);
-        }
-        if !self.widen(shape, number, spans) {
-            return Err(Refusal::TooWide);
-        }
+        self.asked(shape, number)?;
+        *spans = self.widen(shape, number, spans).ok_or(Refusal::TooWide)?;
         Ok(())
     }
 
@@ -101,9 +88,7 @@ pub trait Rack: Stages {
     ) -> Result<(), Refusal>
         ensures { Applies (meaning Self.Stages self.now) shape.now number (rows_of spans.now) area.old result area.new }
     {
-        if let Err(e) = self.ready(shape, number, spans, area.len()) {
-            return Err(e);
-        }
+        self.ready(shape, number, spans, area.len())?;
         if !spans.hold(shape, area) {
             area.fill(0);
             return Err(Refusal::OutsideSpan);
@@ -122,9 +107,7 @@ pub trait Rack: Stages {
     ) -> Result<(), Refusal>
         ensures { Undoes (meaning Self.Stages self.now) shape.now number (rows_of spans.now) area.old result area.new }
     {
-        if let Err(e) = self.ready(shape, number, spans, area.len()) {
-            return Err(e);
-        }
+        self.ready(shape, number, spans, area.len())?;
         if !self.backward(shape, number, spans, area) {
             area.fill(0);
             return Err(Refusal::Foreign);

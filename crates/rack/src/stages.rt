@@ -1,9 +1,9 @@
-ghost use Rattle.std.specs.Prelude.{◌≡◌, ℕ, ◌<◌, Bool, List, length, ℤ, Option};
+ghost use Rattle.std.specs.Prelude.{◌≡◌, ℕ, ◌<◌, Bool, List, length, ℤ, Option, option_map};
 ghost use Rattle.sets.specs.declared.bounds.Bounds.{Bounds};
 ghost use Rattle.sets.specs.declared.shape.Shape.{Shape};
 ghost use Rattle.sets.specs.Areas.{Within, size_of};
 ghost use Rattle.sets.specs.Sets.{rows_of};
-ghost use Rattle.rack.specs.Calls.{is_made, made_or, Found};
+ghost use Rattle.rack.specs.Calls.{Found};
 ghost use Rattle.rack.specs.Laws.{Contained, Apart, Local};
 ghost use Rattle.rack.specs.Meanings.{Suits};
 ghost use Rattle.rack.specs.Members.{meant_at, Admitted};
@@ -39,12 +39,11 @@ pub trait Stages {
         requires channel { channel < shape.now.channels }
         ensures { result ≡ listed self.now shape.now number channel };
 
-    // Puts the spans that a stage makes in the place of these, unless a bound is beyond signed 32 bits.
-    fn widen(&self, shape: &Shape, number: usize, spans: &mut SpanList) -> bool
+    // The spans that a stage makes of these; none where a bound is beyond signed 32 bits.
+    fn widen(&self, shape: &Shape, number: usize, spans: &SpanList) -> Option<SpanList>
         requires suits { Suits (meant_at stages fits listed widened transformed self.now) shape.now number }
-        requires many { length (rows_of spans.old) ≡ shape.now.channels }
-        ensures answer { result ≡ is_made (widened self.now shape.now number (rows_of spans.old)) }
-        ensures after { rows_of spans.new ≡ made_or (widened self.now shape.now number (rows_of spans.old)) (rows_of spans.old) };
+        requires many { length (rows_of spans.now) ≡ shape.now.channels }
+        ensures { option_map rows_of result ≡ widened self.now shape.now number (rows_of spans.now) };
 
     // Turns a set within the spans into what the stage makes of it.
     fn forward(&self, shape: &Shape, number: usize, spans: &SpanList, area: &mut [i32])

@@ -59,7 +59,7 @@ impl<T: Table> Stages for Bank<T> {
         start(&stage) <= channel && !stage.fits_in(channel)
     }
 
-    fn widen(&self, shape: &Shape, number: usize, spans: &mut SpanList) -> bool {
+    fn widen(&self, shape: &Shape, number: usize, spans: &SpanList) -> Option<SpanList> {
         let stage = self.table.stage(shape.channels, number);
         widen_stage(&stage, shape, spans)
     }

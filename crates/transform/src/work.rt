@@ -1,9 +1,8 @@
-ghost use Rattle.std.specs.Prelude.{◌≡◌, true, length};
+ghost use Rattle.std.specs.Prelude.{◌≡◌, true, length, option_map};
 ghost use Rattle.sets.specs.Areas.{size_of, Within};
 ghost use Rattle.sets.specs.Sets.{in_limits, rows_of};
 ghost use Rattle.stages.specs.Plain.{plain};
 ghost use Rattle.stages.specs.Stages.{fits_in};
-ghost use Rattle.rack.specs.Calls.{is_made, made_or};
 ghost use Rattle.rules.specs.Samples.{samples_after, spans_made};
 ghost use Rattle.transform.specs.Work.{Workable, FoundSet};
 
@@ -14,15 +13,17 @@ use sets::shape::Shape;
 use sets::span_list::SpanList;
 use stages::stage::Stage;
 
-// Puts the spans that a stage makes in the place of these, unless a bound is beyond signed 32 bits.
-pub(crate) fn widen_stage(stage: &Stage, shape: &Shape, spans: &mut SpanList) -> bool
+// The spans that a stage makes of these; none where a bound is beyond signed 32 bits.
+#[tactic(auto, using(crate::proofs::Widening::only_width))]
+pub(crate) fn widen_stage(stage: &Stage, shape: &Shape, spans: &SpanList) -> Option<SpanList>
     requires shape { in_limits shape.now ≡ true }
     requires fit { fits_in (plain stage.now) shape.now.channels ≡ true }
-    requires many { length (rows_of spans.old) ≡ shape.now.channels }
-    ensures answer { result ≡ is_made (spans_made shape.now (plain stage.now) (rows_of spans.old)) }
-    ensures after { rows_of spans.new ≡ made_or (spans_made shape.now (plain stage.now) (rows_of spans.old)) (rows_of spans.old) }
+    requires many { length (rows_of spans.now) ≡ shape.now.channels }
+    ensures { option_map rows_of result ≡ spans_made shape.now (plain stage.now) (rows_of spans.now) }
 {
-    stage.spans(shape, spans).is_ok()
+    let mut after = *spans;
+    stage.spans(shape, &mut after).ok()?;
+    Some(after)
 }
 
 // Applies a stage to a set within the spans.

@@ -15,5 +15,5 @@ inside_from_answer f bs xs e = within-from-true f bs xs (sym e)
 pub forward-requires : goal.forward-requires
 forward-requires g c =
     let bs = rows_of c.args.spans.now in
-    let clear = area_clear (meaning g.Self.Stages c.args.self.now) c.args.shape.now c.args.number bs (length c.args.area.now) (none_from_ok _ c.in_default.ensures) in
+    let clear = area_clear (meaning g.Self.Stages c.args.self.now) c.args.shape.now c.args.number bs (length c.args.area.now) (none_from_ok _ c.in_ok-ready.ensures) in
     record { admitted = (_, clear.ready); inside = inside_from_answer c.args.shape.now bs c.args.area.now c.if-not-hold.ensures }

@@ -18,7 +18,7 @@ only_found m f k bs cs ys xs apart ready found =
 
 pub backward-requires : goal.backward-requires
 backward-requires g c =
-    let clear = area_clear (meaning g.Self.Stages c.args.self.now) c.args.shape.now c.args.number (rows_of c.args.spans.now) (length c.args.area.now) (none_from_ok _ c.in_default.ensures) in
+    let clear = area_clear (meaning g.Self.Stages c.args.self.now) c.args.shape.now c.args.number (rows_of c.args.spans.now) (length c.args.area.now) (none_from_ok _ c.in_ok-ready.ensures) in
     record { admitted = (_, clear.ready); long = clear.long }
 
 pub returns : goal.returns
@@ -28,7 +28,7 @@ returns g c =
     let k = c.args.number in
     let bs = rows_of c.args.spans.now in
     let ys = c.args.area.now in
-    let none = none_from_ok _ c.in_default.ensures in
+    let none = none_from_ok _ c.in_ok-ready.ensures in
     let clear = area_clear m f k bs (length ys) none in
     let restored = only_found m f k bs _ ys c.backward.new.area (g.met.Self.Stages.apart c.args.self.now) clear.ready c.if-not-backward.ensures in
     subst (λ (o : Option Refusal). UndoAnswer m f k bs ys o (Ok tt) c.backward.new.area) (sym none) restored
