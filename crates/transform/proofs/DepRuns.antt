@@ -1,5 +1,5 @@
 -- Rows one after the other, from row i down, as the passes of a list.
-use Rattle.std.proofs.Common.{◌≡◌, ℕ, zero, suc, ◌-◌, ◌<◌, ◌≤◌, true, false, List, ℤ, subst, arith}
+use Rattle.std.proofs.Common.{◌≡◌, ℕ, zero, suc, ◌-◌, ◌<◌, ◌≤◌, true, false, List, ℤ, sym, subst, arith}
 use Rattle.sets.specs.declared.shape.Shape.{Shape}
 use Rattle.stages.specs.Plain.{PlainRow}
 use Rattle.rules.specs.Mixed.{row_pass, row_passes}
@@ -21,7 +21,9 @@ module _ (f : Shape) (first : ℕ) (rows : List PlainRow) where
   back_none zero xs h = none
   back_none (suc i) xs h = absurd (omega arith)
 
-  pub back_more : (i : ℕ) (xs ys zs : List ℤ) → 0 < i → Back (row_passes f first rows (i - 1)) xs ys → Turned true (row_pass f first rows i) ys zs → Back (row_passes f first rows i) xs zs
+  pub back_more : (i n : ℕ) (xs ys zs : List ℤ) → 0 < i → n ≡ i → Back (row_passes f first rows (i - 1)) xs ys → Turned true (row_pass f first rows i) ys zs → Back (row_passes f first rows n) xs zs
   unfolding row_passes
-  back_more zero xs ys zs h rest t = absurd (omega arith)
-  back_more (suc i) xs ys zs h rest t = let e : suc i - 1 ≡ i = omega arith in more (subst (λ j. Back (row_passes f first rows j) xs ys) e rest) t
+  back_more zero n xs ys zs h e rest t = absurd (omega arith)
+  back_more (suc i) n xs ys zs h e rest t =
+      let less : suc i - 1 ≡ i = omega arith in
+      subst (λ j. Back (row_passes f first rows j) xs zs) (sym e) (more (subst (λ j. Back (row_passes f first rows j) xs ys) less rest) t)

@@ -1,11 +1,11 @@
 -- A lifting on an area that it is admitted to, applied and undone, by how many indices its lines have.
-use Rattle.std.proofs.Common.{◌≡◌, ℕ, ◌+◌, ◌/◌, ◌%◌, ◌<◌, ◌≤◌, Bool, true, false, leb, List, length, ℤ, pos, ◌+ℤ◌, sym, ap, ◌∙◌, subst, ⊎_elim, arith, w32, SFits}
+use Rattle.std.proofs.Common.{◌≡◌, ℕ, ◌+◌, ◌/◌, ◌%◌, ◌<◌, ◌≤◌, Bool, true, false, leb, List, length, ℤ, pos, ◌+ℤ◌, sym, refl, ap, ◌∙◌, subst, ⊎_elim, arith, w32, SFits}
 use Rattle.std.proofs.lemmas.List.{ext_get_or}
 use Rattle.std.proofs.lemmas.Int.{ints, int_wrap_fits}
 use Rattle.std.proofs.lemmas.Bool.{cases_Bool, cond-true, cond-false, leb-true}
 use Rattle.sets.specs.declared.shape.Shape.{Shape}
 use Rattle.sets.specs.declared.span_list.SpanList.{SpanList}
-use Rattle.sets.specs.Areas.{at, size_of, within, Within}
+use Rattle.sets.specs.Areas.{at, size_of, Within}
 use Rattle.sets.specs.Sets.{rows_of}
 use Rattle.stages.specs.Plain.{PlainLift, PlainStep, lift}
 use Rattle.rules.specs.Lifted.{count_of, touched, lone_odd, doubled_at, lift_passes, lift_samples}
@@ -16,18 +16,18 @@ use Rattle.rules.proofs.LiftSpansFitting.{lifts_fitting, lone_fitting}
 use Rattle.rules.proofs.Places.{length-area, at-area, at-sample, channel_below, time_below}
 use Rattle.transform.specs.Lone.{Doubled, Halved, NoHalf}
 use Rattle.transform.specs.Turned.{Forth, Back}
-use Rattle.transform.specs.Work.{Workable, FoundSet}
-use Rattle.transform.proofs.Finding.{found_if_within, found_by_passes}
+use Rattle.transform.specs.Work.{Workable, OnlySource, NoSource, TakenBack}
+use Rattle.transform.proofs.Finding.{source_by_passes}
 use Rattle.transform.proofs.Narrow.{rows_fit}
 use Rattle.transform.proofs.Turning.{forth_exact}
 
 module _ (f : Shape) (l : PlainLift) (ss : List PlainStep) (s : SpanList) (w : Workable f (lift l ss) (rows_of s)) where
-  pub lift_room : l.first + l.count ≤ f.channels
+  lift_room : l.first + l.count ≤ f.channels
   lift_room = leb-true (l.first + l.count) f.channels w.fit
 
   -- two indices or more: the steps
   module _ (m : leb 2 (count_of f l) ≡ true) where
-    pub many_indices : 2 ≤ count_of f l
+    many_indices : 2 ≤ count_of f l
     many_indices = leb-true 2 (count_of f l) m
 
     fitting : (xs : List ℤ) → Within f (rows_of s) xs → Fitting (lift_passes f l l.parity ss) xs
@@ -36,9 +36,8 @@ module _ (f : Shape) (l : PlainLift) (ss : List PlainStep) (s : SpanList) (w : W
     pub steps_applied : (xs ys : List ℤ) → Within f (rows_of s) xs → Forth (lift_passes f l l.parity ss) xs ys → ys ≡ lift_samples f l ss xs
     steps_applied xs ys inside forth = forth_exact _ xs ys forth (fitting xs inside) ∙ sym (lift_many f l ss xs m)
 
-    pub steps_found : (ys zs : List ℤ) → length ys ≡ size_of f → Back (lift_passes f l l.parity ss) ys zs → (t : Bool) → t ≡ within f (rows_of s) zs → FoundSet f (lift l ss) (rows_of s) ys t zs
-    steps_found ys zs long back =
-        found_by_passes f (lift l ss) (rows_of s) ys zs _ long (lifts_blind f l lift_room many_indices l.parity ss) fitting (λ xs _. lift_many f l ss xs m) back
+    pub steps_source : (ys zs : List ℤ) → length ys ≡ size_of f → Back (lift_passes f l l.parity ss) ys zs → OnlySource f (lift l ss) (rows_of s) ys zs
+    steps_source ys zs long back = source_by_passes f (lift l ss) (rows_of s) ys zs _ long (lifts_blind f l lift_room many_indices l.parity ss) fitting (λ xs _. lift_many f l ss xs m) back
 
   -- just one index, and that one odd: the doubling, by place
   module _ (m : leb 2 (count_of f l) ≡ false) (o : lone_odd f l ≡ true) where
@@ -73,18 +72,18 @@ module _ (f : Shape) (l : PlainLift) (ss : List PlainStep) (s : SpanList) (w : W
     same_half : (x y : ℤ) → x +ℤ x ≡ y +ℤ y → x ≡ y
     same_half x y e = omega (arith, ints)
 
-    pub halving_found : (ys zs : List ℤ) → length ys ≡ size_of f → Halved f l ys zs → (t : Bool) → t ≡ within f (rows_of s) zs → FoundSet f (lift l ss) (rows_of s) ys t zs
-    halving_found ys zs long d =
-        found_if_within f (lift l ss) (rows_of s) ys zs
-        (λ _. same-by-touch (lift_samples f l ss zs) ys (long_after zs) long
-        (λ a h t. doubled-hit zs a h t ∙ (d.hit a (omega arith) t).1)
-        (λ a h t. doubled-kept zs a h t ∙ d.kept a t))
-        (λ xs inside gives. same-by-touch zs xs (d.long ∙ long) inside.long
-        (λ a h t. same_half (at zs a) (at xs a) ((d.hit a (omega arith) t).1 ∙ sym (ap (λ v. at v a) gives) ∙ doubled-hit xs a h t))
-        (λ a h t. d.kept a t ∙ sym (ap (λ v. at v a) gives) ∙ doubled-kept xs a h t))
+    halving_source : (ys zs : List ℤ) → length ys ≡ size_of f → Halved f l ys zs → OnlySource f (lift l ss) (rows_of s) ys zs
+    halving_source ys zs long d = record {
+      gives = λ _. same-by-touch (lift_samples f l ss zs) ys (long_after zs) long
+          (λ a h t. doubled-hit zs a h t ∙ (d.hit a (omega arith) t).1)
+          (λ a h t. doubled-kept zs a h t ∙ d.kept a t);
+      only = λ xs inside gives. same-by-touch zs xs (d.long ∙ long) inside.long
+          (λ a h t. same_half (at zs a) (at xs a) ((d.hit a (omega arith) t).1 ∙ sym (ap (λ v. at v a) gives) ∙ doubled-hit xs a h t))
+          (λ a h t. d.kept a t ∙ sym (ap (λ v. at v a) gives) ∙ doubled-kept xs a h t);
+    }
 
-    pub odd_foreign : (ys zs : List ℤ) → length ys ≡ size_of f → NoHalf f l ys → FoundSet f (lift l ss) (rows_of s) ys false zs
-    odd_foreign ys zs long n xs inside gives =
+    odd_foreign : (ys : List ℤ) → length ys ≡ size_of f → NoHalf f l ys → NoSource f (lift l ss) (rows_of s) ys
+    odd_foreign ys long n xs inside gives =
         let h : n.address < size_of f = omega (arith, n.below) in
         n.odd (at xs n.address) (sym (doubled-hit xs n.address h n.hit) ∙ ap (λ v. at v n.address) gives)
 
@@ -93,5 +92,11 @@ module _ (f : Shape) (l : PlainLift) (ss : List PlainStep) (s : SpanList) (w : W
     pub still_applied : (xs : List ℤ) → xs ≡ lift_samples f l ss xs
     still_applied xs = sym (lift_still f l ss xs m o)
 
-    pub still_found : (ys : List ℤ) (t : Bool) → t ≡ within f (rows_of s) ys → FoundSet f (lift l ss) (rows_of s) ys t ys
-    still_found ys = found_if_within f (lift l ss) (rows_of s) ys ys (λ _. lift_still f l ss ys m o) (λ xs _ gives. sym gives ∙ lift_still f l ss xs m o)
+    pub still_source : (ys : List ℤ) → OnlySource f (lift l ss) (rows_of s) ys ys
+    still_source ys = record { gives = λ _. lift_still f l ss ys m o; only = λ xs _ gives. sym gives ∙ lift_still f l ss xs m o }
+
+-- a doubling undone, or refused at an odd sample
+pub halved_back : (f : Shape) (l : PlainLift) (ss : List PlainStep) → leb 2 (count_of f l) ≡ false → lone_odd f l ≡ true → (ys zs : List ℤ) → length ys ≡ size_of f →
+    (r : Bool) → (r ≡ true → Halved f l ys zs) → (r ≡ false → NoHalf f l ys) → TakenBack f (lift l ss) ys r zs
+halved_back f l ss m o ys zs long true even odd = λ s w. halving_source f l ss s w m o ys zs long (even refl)
+halved_back f l ss m o ys zs long false even odd = λ s w. odd_foreign f l ss s w m o ys long (odd refl)

@@ -12,7 +12,7 @@ use Rattle.rules.specs.Lifted.{count_of, touched, lone_odd}
 use Rattle.rules.proofs.LiftPlaces.{touched-index}
 use Rattle.rules.proofs.Places.{time_below}
 use Rattle.transform.specs.declared.lines.Lines.{Lines}
-use Rattle.transform.specs.Lined.{spot, Spot, Lined}
+use Rattle.transform.specs.Lined.{spot, Spot, line_at, Lined}
 use Rattle.transform.specs.Lone.{Spaced, OddAt, Touched, NoHalf}
 use Rattle.transform.specs.Parts.{index_at}
 use Rattle.transform.proofs.Rows.{places_rise}
@@ -66,8 +66,9 @@ module _ (f : Shape) (l : PlainLift) (n : Lines) (lined : Lined f l n) (one : co
         let found = lined.all a (omega arith) t in
         let index = touched-index f l (a / f.samples) (a % f.samples) (time_below f a (omega arith)) t in
         let none : index_at f l a - n.first ≡ 0 = omega (arith, lined.first, index.until) in
-        let place : a ≡ n.start + found.0 * n.apart = found.2 ∙ ap (spot n found.0) none ∙ lone_spot found.0 in
-        subst (λ x. R (at xs x) (at ys x)) (sym place) (d.hit found.0 found.1);
+        let r = line_at f l a in
+        let place : a ≡ n.start + r * n.apart = found.1 ∙ ap (spot n r) none ∙ lone_spot r in
+        subst (λ x. R (at xs x) (at ys x)) (sym place) (d.hit r found.0);
     kept = λ a t. d.kept a (λ r h e. both_ways _ t (subst (λ x. touched f l (x / f.samples) (x % f.samples) ≡ true) (sym e) (lone_at r h).hit));
   }
 
@@ -76,3 +77,7 @@ module _ (f : Shape) (l : PlainLift) (n : Lines) (lined : Lined f l n) (one : co
   lone-odd xs long o =
       let spot = lone_at o.line o.below in
       record { address = n.start + o.line * n.apart; below = omega (arith, spot.below); hit = spot.hit; odd = o.odd }
+
+-- the samples of such lines lie in the area
+pub lone_below : (f : Shape) (l : PlainLift) (n : Lines) (i : ℕ) → Lined f l n → lone_odd f l ≡ true → i < n.lines → n.start + i * n.apart < size_of f
+lone_below f l n i lined odd h = (lone_at f l n lined (lone_count f l odd) i h).below

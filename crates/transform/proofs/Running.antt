@@ -15,7 +15,7 @@ use Rattle.rules.proofs.LiftPlaces.{touched-index}
 use Rattle.rules.proofs.LiftReads.{lift_blind}
 use Rattle.rules.proofs.Places.{time_below}
 use Rattle.transform.specs.declared.lines.Lines.{Lines}
-use Rattle.transform.specs.Lined.{spot, Spot, Lined}
+use Rattle.transform.specs.Lined.{spot, Spot, line_at, Lined}
 use Rattle.transform.specs.Near.{Near}
 use Rattle.transform.specs.Parts.{part_of, index_at, between, of_channel, below_channel, both}
 use Rattle.transform.specs.Turned.{Turned}
@@ -36,8 +36,8 @@ module _ (f : Shape) (l : PlainLift) (n : Lines) (lined : Lined f l n) (time : l
       let found = lined.all a h hit in
       let index = touched-index f l (a / f.samples) (a % f.samples) (time_below f a h) hit in
       let low : n.first ≤ index_at f l a = omega (arith, index.from, lined.first) in
-      let here = lined.here found.0 (index_at f l a - n.first) found.1 (omega (arith, index.until, lined.first, lined.count)) in
-      (found.0, found.1, found.2, ap (λ x. x / f.samples) found.2 ∙ here.channel time, low)
+      let here = lined.here (line_at f l a) (index_at f l a - n.first) found.0 (omega (arith, index.until, lined.first, lined.count)) in
+      (line_at f l a, found.0, found.1, ap (λ x. x / f.samples) found.1 ∙ here.channel time, low)
 
   -- a call along line r serves count positions from j on, all of them inside
   pub run_served : (m : Parity) (s : Step) → Near s → (r j count : ℕ) (from : List ℕ) → r < n.lines → (n.first + j) % 2 ≡ parity_of m → 17 ≤ j → j + 2 * count + 30 ≤ n.count →

@@ -17,7 +17,7 @@ use Rattle.rules.specs.Lifted.{address_of, inside_of, changes, lift_pass}
 use Rattle.rules.specs.Passes.{Pass}
 use Rattle.rules.proofs.LiftIndices.{extended-below, extended-from-parity, source_parity}
 use Rattle.transform.specs.declared.lines.Lines.{Lines}
-use Rattle.transform.specs.Lined.{spot, Spot, Lined}
+use Rattle.transform.specs.Lined.{spot, Spot, line_at, Lined}
 use Rattle.transform.specs.Parts.{part_of, index_at, of_index}
 use Rattle.transform.specs.Rowed.{quotient_at, Rowed, Fitted}
 use Rattle.transform.specs.Turned.{Turned, turned_by}
@@ -124,5 +124,5 @@ position_served f l n m s j from lined h p e = record {
   all = λ a b t w.
       let found = lined.all a b (and_parts _ _ t).0 in
       let at : index_at f l a - n.first ≡ j = omega (arith, eqb-true (index_at f l a) (n.first + j) w) in
-      (found.0, found.1, found.2 ∙ ap (spot n found.0) at);
+      (line_at f l a, found.0, found.1 ∙ ap (spot n (line_at f l a)) at);
 }

@@ -9,7 +9,7 @@ use Rattle.stages.specs.declared.stage.Axis.TheVariants.{Time, Channel}
 use Rattle.stages.specs.Lifting.{lists_channel}
 use Rattle.stages.specs.Lines.{first_index, index_count}
 use Rattle.stages.specs.Plain.{PlainLift}
-use Rattle.rules.specs.Lifted.{first_of, count_of, address_of}
+use Rattle.rules.specs.Lifted.{on_axis, first_of, count_of, address_of}
 use Rattle.rules.proofs.LiftLines.{place_from}
 use Rattle.rules.proofs.LiftPlaces.{source_at, touched-index, listed_below, listed_from}
 use Rattle.rules.proofs.Places.{address_split, time_below}
@@ -27,7 +27,7 @@ pub record Through (f : Shape) (l : PlainLift) (n : Lines) (r c t : ℕ) : Type 
 -- each line runs through a listed channel, and a line runs through each sample of one
 module _ (f : Shape) (l : PlainLift) (n : Lines) (fits : l.first + l.count ≤ f.channels) (first : n.first ≡ first_of f l) (count : n.count ≡ count_of f l) (apart : 1 ≤ n.apart)
     (each : (r : ℕ) → r < n.lines → (c : ℕ) × (t : ℕ) × Through f l n r c t)
-    (through : (c t : ℕ) → lists_channel l c ≡ true → t < f.samples → (r : ℕ) × (r < n.lines) × Through f l n r c t) where
+    (through : (c t : ℕ) → lists_channel l c ≡ true → t < f.samples → (on_axis l.axis (c - l.first) t < n.lines) × Through f l n (on_axis l.axis (c - l.first) t) c t) where
   spot_of : (r j : ℕ) → r < n.lines → j < n.count → Spot f l n r j (spot n r j)
   spot_of r j h k =
       let w = each r h in
@@ -46,7 +46,7 @@ module _ (f : Shape) (l : PlainLift) (n : Lines) (fits : l.first + l.count ≤ f
         let s = touched-index f l (a / f.samples) (a % f.samples) (time_below f a h) hit in
         let w = through (a / f.samples) (a % f.samples) s.listed (time_below f a h) in
         let index : n.first + (index_at f l a - n.first) ≡ index_at f l a = omega (arith, s.from) in
-        (w.0, w.1, sym (address_split f a) ∙ sym s.address ∙ ap (address_of f l (a / f.samples) (a % f.samples)) (sym index) ∙ w.2.spots (index_at f l a - n.first));
+        (w.0, sym (address_split f a) ∙ sym s.address ∙ ap (address_of f l (a / f.samples) (a % f.samples)) (sym index) ∙ w.1.spots (index_at f l a - n.first));
   }
 
 -- the same lifting along an axis
@@ -85,7 +85,6 @@ lined_time f l n fits some first count lines start by apart =
       },
     ))
     (λ c t on h. (
-      c - l.first,
       omega (arith, listed_from l c on, listed_below l c on),
       record {
         listed = on;
@@ -117,7 +116,7 @@ lined_channel f l n fits some first count lines start by apart =
         channel = λ e. absurd (channel_is_not_time e);
       },
     ))
-    (λ c t on h. (t, omega arith, record { listed = on; sample = h; spots = λ j. spots c t j; channel = λ e. absurd (channel_is_not_time e) }))
+    (λ c t on h. (omega arith, record { listed = on; sample = h; spots = λ j. spots c t j; channel = λ e. absurd (channel_is_not_time e) }))
 
 pub time_lined : (f : Shape) (l : PlainLift) (n : Lines) → l.axis ≡ Time → l.first + l.count ≤ f.channels → 1 ≤ f.samples → n.first ≡ first_index l.level f.origin → n.count ≡ index_count l.level f.origin f.samples →
     n.lines ≡ l.count → n.start ≡ l.first * f.samples + (n.first * 2 ^ l.level - f.origin) → n.by ≡ 2 ^ l.level → n.apart ≡ f.samples → Lined f l n

@@ -6,6 +6,7 @@ pub mod Indices
 pub mod Parts
 pub mod Lined
 pub mod Turns
+pub mod Steps
 pub mod Lone
 pub mod Work
 pub mod Near

@@ -4,7 +4,7 @@ use Rattle.sets.specs.declared.shape.Shape.{Shape}
 use Rattle.sets.specs.Areas.{size_of}
 use Rattle.stages.specs.declared.stage.Axis.TheVariants.{Time}
 use Rattle.stages.specs.Plain.{PlainLift}
-use Rattle.rules.specs.Lifted.{first_of, count_of, touched, address_of}
+use Rattle.rules.specs.Lifted.{on_axis, first_of, count_of, touched, address_of}
 use Rattle.transform.specs.declared.lines.Lines.{Lines}
 use Rattle.transform.specs.Parts.{index_at}
 
@@ -20,10 +20,14 @@ pub record Spot (f : Shape) (l : PlainLift) (n : Lines) (r j a : ℕ) : Type 0 w
   pub channel : l.axis ≡ Time → a / f.samples ≡ l.first + r
   pub line : (i : ℕ) → i < n.count → address_of f l (a / f.samples) (a % f.samples) (n.first + i) ≡ spot n r i
 
+-- the line on which an address stands
+abbrev pub line_at : Shape → PlainLift → ℕ → ℕ
+line_at f l a = on_axis l.axis (a / f.samples - l.first) (a % f.samples)
+
 -- the positions of the lines are the touched samples
 pub record Lined (f : Shape) (l : PlainLift) (n : Lines) : Type 0 where
   pub first : n.first ≡ first_of f l
   pub count : n.count ≡ count_of f l
   pub apart : 1 ≤ n.apart
   pub here : (r j : ℕ) → r < n.lines → j < n.count → Spot f l n r j (spot n r j)
-  pub all : (a : ℕ) → a < size_of f → touched f l (a / f.samples) (a % f.samples) ≡ true → (r : ℕ) × (r < n.lines) × (a ≡ spot n r (index_at f l a - n.first))
+  pub all : (a : ℕ) → a < size_of f → touched f l (a / f.samples) (a % f.samples) ≡ true → (line_at f l a < n.lines) × (a ≡ spot n (line_at f l a) (index_at f l a - n.first))

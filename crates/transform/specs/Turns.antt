@@ -1,46 +1,47 @@
 -- A step that is carried out on the lines of a lifting, by positions: position j of a line has the index first + j.
-use Rattle.std.specs.Prelude.{◌≡◌, ℕ, ◌+◌, ◌%◌, ◌≤◌, Bool, List, ℤ, pos, ◌-ℤ◌}
+use Rattle.std.specs.Prelude.{◌≡◌, ℕ, ◌+◌, ◌%◌, Bool, List, length, ℤ, pos, ◌-ℤ◌}
 use Rattle.sets.specs.Areas.{size_of}
 use Rattle.stages.specs.Lifting.{parity_of, source_index}
 use Rattle.stages.specs.Lines.{extended}
 use Rattle.stages.specs.Plain.{plain_lift, plain_step}
 use Rattle.rules.specs.Lifted.{lift_pass}
+use Rattle.rules.specs.Passes.{Pass}
 use Rattle.transform.specs.declared.turn.Turn.{Turn}
-use Rattle.transform.specs.Lined.{Lined}
 use Rattle.transform.specs.Parts.{part_of, of_index, between, of_channel}
 use Rattle.transform.specs.Turned.{Turned}
 
--- the lines are those of the lifting, of two positions or more, in an area of so many samples
-pub record Ready (t : Turn) (size : ℕ) : Type 0 where
-  pub lined : Lined t.shape (plain_lift t.lift) t.lines
-  pub fits : t.lift.first + t.lift.count ≤ t.shape.channels
-  pub many : 2 ≤ t.lines.count
-  pub long : size ≡ size_of t.shape
-
 -- position j has an index of the parity that is changed
 abbrev pub Hits : Turn → ℕ → Type 0
-Hits t j = (t.lines.first + j) % 2 ≡ parity_of t.parity
+Hits t j = (t.on.lines.first + j) % 2 ≡ parity_of t.parity
 
 -- the index that tap k reads for position j, the position inside the line that stands for any index, and so the position that is read
 abbrev pub read_index : Turn → ℕ → ℕ → ℤ
-read_index t j k = source_index (parity_of t.parity) (t.lines.first + j) t.step.offset k
+read_index t j k = source_index (parity_of t.parity) (t.on.lines.first + j) t.step.offset k
 
 abbrev pub inside_at : Turn → ℤ → ℕ
-inside_at t z = extended t.lift.extension t.lines.count (z -ℤ pos t.lines.first)
+inside_at t z = extended t.on.lifting.lift.extension t.on.lines.count (z -ℤ pos t.on.lines.first)
 
 abbrev pub read_index_at : Turn → ℕ → ℕ → ℕ
 read_index_at t j k = inside_at t (read_index t j k)
 
+-- the step as a pass of the rule
+abbrev pub pass_of : Turn → Pass
+pass_of t = lift_pass t.on.lifting.shape (plain_lift t.on.lifting.lift) t.parity (plain_step t.step)
+
 -- the part of the step at some addresses is carried out, or undone
 abbrev pub TurnedAt : Bool → Turn → (ℕ → Bool) → List ℤ → List ℤ → Type 0
-TurnedAt undo t w xs ys = Turned undo (part_of (lift_pass t.shape (plain_lift t.lift) t.parity (plain_step t.step)) w) xs ys
+TurnedAt undo t w xs ys = Turned undo (part_of (pass_of t) w) xs ys
+
+-- an area has as many samples as the sets of the lifting
+abbrev pub Sized : Turn → List ℤ → Type 0
+Sized t xs = length xs ≡ size_of t.on.lifting.shape
 
 -- the addresses of position j of every line, those of the positions from i on and below e, and those of one channel along the samples
 abbrev pub at_position : Turn → ℕ → ℕ → Bool
-at_position t j = of_index t.shape (plain_lift t.lift) (t.lines.first + j)
+at_position t j = of_index t.on.lifting.shape (plain_lift t.on.lifting.lift) (t.on.lines.first + j)
 
 abbrev pub from_to : Turn → ℕ → ℕ → ℕ → Bool
-from_to t i e = between t.shape (plain_lift t.lift) (t.lines.first + i) (t.lines.first + e)
+from_to t i e = between t.on.lifting.shape (plain_lift t.on.lifting.lift) (t.on.lines.first + i) (t.on.lines.first + e)
 
 abbrev pub on_line : Turn → ℕ → ℕ → Bool
-on_line t r = of_channel t.shape (t.lift.first + r)
+on_line t r = of_channel t.on.lifting.shape (t.on.lifting.lift.first + r)

@@ -3,7 +3,7 @@ ghost use Rattle.rules.specs.Samples.{bank, start_of};
 ghost use Rattle.stages.specs.Plain.{plain};
 ghost use Rattle.rules.proofs.EveryKind.{every-bank-lawful};
 
-use crate::work::{apply_stage, undo_stage, widen_stage};
+use crate::work::Work;
 use rack::rack::Rack;
 use rack::stages::Stages;
 use sets::shape::Shape;
@@ -59,19 +59,22 @@ impl<T: Table> Stages for Bank<T> {
         start(&stage) <= channel && !stage.fits_in(channel)
     }
 
+    #[tactic(auto, using(crate::proofs::Widening::only_width))]
     fn widen(&self, shape: &Shape, number: usize, spans: &SpanList) -> Option<SpanList> {
         let stage = self.table.stage(shape.channels, number);
-        widen_stage(&stage, shape, spans)
+        let mut after = *spans;
+        stage.spans(shape, &mut after).ok()?;
+        Some(after)
     }
 
     fn forward(&self, shape: &Shape, number: usize, spans: &SpanList, area: &mut [i32]) {
         let stage = self.table.stage(shape.channels, number);
-        apply_stage(&stage, shape, spans, area);
+        stage.apply(shape, area);
     }
 
     fn backward(&self, shape: &Shape, number: usize, spans: &SpanList, area: &mut [i32]) -> bool {
         let stage = self.table.stage(shape.channels, number);
-        undo_stage(&stage, shape, spans, area)
+        stage.take_back(shape, area) && spans.hold(shape, area)
     }
 }
 

@@ -1,78 +1,72 @@
-ghost use Rattle.std.specs.Prelude.{◌≡◌, ℕ, ◌+◌, ◌-◌, ◌*◌, ◌<◌, ◌≤◌, true, not, length, slice_index, slice_index_or};
-ghost use Rattle.sets.specs.Sets.{in_limits};
+ghost use Rattle.std.specs.Prelude.{◌≡◌, ℕ, ◌+◌, ◌-◌, ◌*◌, ◌<◌, ◌≤◌, not, length, slice_index, slice_index_or};
+ghost use Rattle.sets.specs.Areas.{size_of};
 ghost use Rattle.stages.specs.Channels.{no_row};
 ghost use Rattle.stages.specs.Plain.{plain_rows};
 ghost use Rattle.rules.specs.Mixed.{row_pass, row_passes};
-ghost use Rattle.transform.specs.DepRows.{RowFits, CutTo};
+ghost use Rattle.transform.specs.DepRows.{CutTo};
 ghost use Rattle.transform.specs.Turned.{Turned, Forth, Back};
 
+use crate::dep_rows::DepRows;
 use crate::row::turn_row;
-use sets::shape::Shape;
 use stages::quotient::Quotient;
-use stages::stage::Dep;
 
-// Row i, from 1 up, without the taps that have no sample to read.
-fn row_of(dep: &Dep, i: usize) -> Quotient
-    requires { (1 ≤ i) × (i < dep.now.count) }
-    ensures { CutTo i (slice_index_or (plain_rows dep.now) (i - 1) no_row) result }
-{
-    let row = dep.rows[i - 1];
-    let taps = row.taps;
-    Quotient {
-        taps,
-        tap_count: row.tap_count.min(i),
-        residue: row.residue,
-        exponent: row.exponent,
+impl DepRows {
+    // Row i, from 1 up, without the taps that have no sample to read.
+    fn row(&self, i: usize) -> Quotient
+        requires { (1 ≤ i) × (i < self.now.dep.count) }
+        ensures { CutTo i (slice_index_or (plain_rows self.now.dep) (i - 1) no_row) result }
+    {
+        let mut row = self.dep.rows[i - 1];
+        row.tap_count = row.tap_count.min(i);
+        row
     }
-}
 
-// The addresses of the first samples of eight channels.
-fn starts(first: usize, shape: &Shape) -> [usize; 8]
-    requires { (first ≤ 64) × (in_limits shape.now ≡ true) }
-    ensures { (j : ℕ) → j < 8 → slice_index result j ≡ (first + j) * shape.now.samples }
-{
-    let mut from = [0; 8];
-    for j in 0..8 {
-        from[j] = (first + j) * shape.samples;
+    // The addresses of the first samples of eight channels.
+    fn starts(&self) -> [usize; 8]
+        ensures { (j : ℕ) → j < 8 → slice_index result j ≡ (self.now.dep.first + j) * self.now.shape.samples }
+    {
+        let mut from = [0; 8];
+        for (j, address) in from.iter_mut().enumerate() {
+            *address = (self.dep.first + j) * self.shape.samples;
+        }
+        from
     }
-    from
-}
 
-// Takes the quotient of row i, from 1 up, away from the samples of its channel, or adds it to them again.
-fn turn_dep_row<const TAKE: bool>(dep: &Dep, shape: &Shape, i: usize, area: &mut [i32])
-    requires { (RowFits dep.now shape.now i (length area.old)) × (1 ≤ i) }
-    ensures { Turned (not TAKE) (row_pass shape.now dep.now.first (plain_rows dep.now) i) area.old area.new }
-{
-    let quotient = row_of(dep, i);
-    let from = starts(dep.first, shape);
-    turn_row::<TAKE>(
-        area,
-        &quotient,
-        (dep.first + i) * shape.samples,
-        1,
-        shape.samples,
-        &from,
-    );
-}
-
-// Applies the rows from i down to 1: in this order each reads old samples alone.
-pub(crate) fn apply_rows(dep: &Dep, shape: &Shape, i: usize, area: &mut [i32])
-    requires { RowFits dep.now shape.now i (length area.old) }
-    ensures { Forth (row_passes shape.now dep.now.first (plain_rows dep.now) i) area.old area.new }
-{
-    if i > 0 {
-        turn_dep_row::<true>(dep, shape, i, area);
-        apply_rows(dep, shape, i - 1, area);
+    // Takes the quotient of row i, from 1 up, away from the samples of its channel, or adds it to them again.
+    fn turn<const TAKE: bool>(&self, i: usize, area: &mut [i32])
+        requires row { (1 ≤ i) × (i < self.now.dep.count) }
+        requires long { length area.old ≡ size_of self.now.shape }
+        ensures { Turned (not TAKE) (row_pass self.now.shape self.now.dep.first (plain_rows self.now.dep) i) area.old area.new }
+    {
+        let quotient = self.row(i);
+        let from = self.starts();
+        turn_row::<TAKE>(
+            area,
+            &quotient,
+            (self.dep.first + i) * self.shape.samples,
+            1,
+            self.shape.samples,
+            &from,
+        );
     }
-}
 
-// Undoes the rows from i down to 1, the first row first.
-pub(crate) fn undo_rows(dep: &Dep, shape: &Shape, i: usize, area: &mut [i32])
-    requires { RowFits dep.now shape.now i (length area.old) }
-    ensures { Back (row_passes shape.now dep.now.first (plain_rows dep.now) i) area.old area.new }
-{
-    if i > 0 {
-        undo_rows(dep, shape, i - 1, area);
-        turn_dep_row::<false>(dep, shape, i, area);
+    // Applies the rows, the last first: in this order each reads old samples alone.
+    pub(crate) fn apply(&self, area: &mut [i32])
+        requires { length area.old ≡ size_of self.now.shape }
+        ensures { Forth (row_passes self.now.shape self.now.dep.first (plain_rows self.now.dep) (self.now.dep.count - 1)) area.old area.new }
+    {
+        for i in (1..self.dep.count).rev() {
+            self.turn::<true>(i, area);
+        }
+    }
+
+    // Undoes the rows, the first first.
+    pub(crate) fn undo(&self, area: &mut [i32])
+        requires { length area.old ≡ size_of self.now.shape }
+        ensures { Back (row_passes self.now.shape self.now.dep.first (plain_rows self.now.dep) (self.now.dep.count - 1)) area.old area.new }
+    {
+        for i in 1..self.dep.count {
+            self.turn::<false>(i, area);
+        }
     }
 }

@@ -3,19 +3,22 @@
 
 pub mod bank;
 mod dep;
+mod dep_rows;
 mod dep_work;
-mod indexed;
 mod indexing;
 mod lift;
 mod lift_work;
+mod lifting;
 mod lines;
 mod lining;
 mod lone;
+mod long_lines;
 mod rct;
 mod rct_work;
 mod row;
 mod runs;
 mod sources;
+mod stage_work;
 mod steps;
 mod turn;
 mod work;

@@ -1,97 +1,78 @@
-ghost use Rattle.std.specs.Prelude.{◌≡◌, ◌+◌, ◌<◌, ◌≤◌, true, length};
-ghost use Rattle.sets.specs.Areas.{size_of};
-ghost use Rattle.sets.specs.Sets.{in_limits};
+ghost use Rattle.std.specs.Prelude.{◌≡◌, ◌+◌, ◌<◌, ◌≤◌};
 ghost use Rattle.stages.specs.declared.stage.Axis.TheVariants.{Time};
-ghost use Rattle.stages.specs.Plain.{plain_lift, plain_step};
-ghost use Rattle.rules.specs.Lifted.{count_of, lift_pass};
 ghost use Rattle.transform.specs.Turned.{Turned};
-ghost use Rattle.transform.specs.Turns.{Ready, Hits, TurnedAt, at_position, from_to};
+ghost use Rattle.transform.specs.Turns.{Sized, Hits, TurnedAt, pass_of, at_position, from_to};
 
-use crate::lining::lines_of;
 use crate::row::turn_row;
-use crate::runs::turn_runs;
-use crate::sources::sources;
 use crate::turn::Turn;
-use sets::shape::Shape;
-use stages::stage::{Axis, Lift, Parity, Step};
-
-// A step at position j of every line.
-fn turn_position<const UNDO: bool>(turn: &Turn, j: usize, area: &mut [i32])
-    requires ready { Ready turn.now (length area.old) }
-    requires inside { (j < turn.now.lines.count) × (Hits turn.now j) }
-    ensures { TurnedAt UNDO turn.now (at_position turn.now j) area.old area.new }
-{
-    let from = sources(turn, 0, j);
-    let lines = &turn.lines;
-    turn_row::<UNDO>(
-        area,
-        &turn.step.quotient,
-        lines.start + j * lines.by,
-        lines.apart,
-        lines.lines,
-        &from,
-    );
-}
-
-// A step at the positions of its parity from `from` on and below `to`.
-fn turn_positions<const UNDO: bool>(turn: &Turn, from: usize, to: usize, area: &mut [i32])
-    requires ready { Ready turn.now (length area.old) }
-    requires inside { (from ≤ to + 1) × ((to ≤ turn.now.lines.count) × (Hits turn.now from)) }
-    ensures { TurnedAt UNDO turn.now (from_to turn.now from to) area.old area.new }
-{
-    let mut j = from;
-    while j < to {
-        turn_position::<UNDO>(turn, j, area);
-        j += 2;
-    }
-}
+use stages::stage::Axis;
 
 // So many positions from an end of a line on, all that a step with an offset of -8 to 8 reads is inside.
 const MARGIN: usize = 32;
 
-// A step along the samples, at the positions of its parity from `from` on. Those near the ends are worked out one by one, and all
-// where the offset is none that a recipe may write.
-fn turn_channels<const UNDO: bool>(turn: &Turn, from: usize, area: &mut [i32])
-    requires ready { (Ready turn.now (length area.old)) × (turn.now.lift.axis ≡ Time) }
-    requires inside { (from ≤ 1) × (Hits turn.now from) }
-    ensures { TurnedAt UNDO turn.now (from_to turn.now from turn.now.lines.count) area.old area.new }
-{
-    let end = turn.lines.count;
-    let start = from + MARGIN;
-    let near = turn.step.offset >= -8 && turn.step.offset <= 8;
-    if !near || end < start + MARGIN {
-        turn_positions::<UNDO>(turn, from, end, area);
-        return;
+impl Turn {
+    // The step at position j of every line.
+    fn position<const UNDO: bool>(&self, j: usize, area: &mut [i32])
+        requires sized { Sized self.now area.old }
+        requires inside { j < self.now.on.lines.count }
+        requires hits { Hits self.now j }
+        ensures { TurnedAt UNDO self.now (at_position self.now j) area.old area.new }
+    {
+        let from = self.sources(0, j);
+        let lines = &self.on.lines;
+        turn_row::<UNDO>(
+            area,
+            &self.step.quotient,
+            lines.start + j * lines.by,
+            lines.apart,
+            lines.lines,
+            &from,
+        );
     }
-    let count = (end - start - MARGIN) / 2;
-    turn_positions::<UNDO>(turn, from, start, area);
-    turn_runs::<UNDO>(turn, start, count, area);
-    turn_positions::<UNDO>(turn, start + 2 * count, end, area);
-}
 
-// A step at all positions of its parity.
-pub(crate) fn turn_step<const UNDO: bool>(
-    shape: &Shape,
-    lift: &Lift,
-    parity: Parity,
-    step: &Step,
-    area: &mut [i32],
-)
-    requires limits { (in_limits shape.now ≡ true) × ((lift.now.first + lift.now.count ≤ shape.now.channels) × (2 ≤ count_of shape.now (plain_lift lift.now))) }
-    requires long { length area.old ≡ size_of shape.now }
-    ensures { Turned UNDO (lift_pass shape.now (plain_lift lift.now) parity (plain_step step.now)) area.old area.new }
-{
-    let lines = lines_of(shape, lift);
-    let turn = Turn {
-        shape: *shape,
-        lift: *lift,
-        lines,
-        parity,
-        step: *step,
-    };
-    let from = (lines.first + parity.number()) % 2;
-    match lift.axis {
-        Axis::Time => turn_channels::<UNDO>(&turn, from, area),
-        Axis::Channel => turn_positions::<UNDO>(&turn, from, lines.count, area),
+    // The step at the positions of its parity from `from` on and below `to`.
+    fn positions<const UNDO: bool>(&self, from: usize, to: usize, area: &mut [i32])
+        requires sized { Sized self.now area.old }
+        requires inside { (from ≤ to + 1) × (to ≤ self.now.on.lines.count) }
+        requires hits { Hits self.now from }
+        ensures { TurnedAt UNDO self.now (from_to self.now from to) area.old area.new }
+    {
+        for j in (from..to).step_by(2) {
+            self.position::<UNDO>(j, area);
+        }
+    }
+
+    // The step along the samples, at the positions of its parity from `from` on. Those near the ends are worked out one by one, and all
+    // where the offset is none that a recipe may write.
+    fn along_time<const UNDO: bool>(&self, from: usize, area: &mut [i32])
+        requires sized { Sized self.now area.old }
+        requires axis { self.now.on.lifting.lift.axis ≡ Time }
+        requires inside { (from ≤ 1) × (Hits self.now from) }
+        ensures { TurnedAt UNDO self.now (from_to self.now from self.now.on.lines.count) area.old area.new }
+    {
+        let end = self.on.lines.count;
+        let start = from + MARGIN;
+        let near = self.step.offset >= -8 && self.step.offset <= 8;
+        if !near || end < start + MARGIN {
+            self.positions::<UNDO>(from, end, area);
+            return;
+        }
+        let count = (end - start - MARGIN) / 2;
+        self.positions::<UNDO>(from, start, area);
+        self.runs::<UNDO>(start, count, area);
+        self.positions::<UNDO>(start + 2 * count, end, area);
+    }
+
+    // The step at all positions of its parity.
+    pub(crate) fn everywhere<const UNDO: bool>(&self, area: &mut [i32])
+        requires { Sized self.now area.old }
+        ensures { Turned UNDO (pass_of self.now) area.old area.new }
+    {
+        let lines = &self.on.lines;
+        let from = (lines.first + self.parity.number()) % 2;
+        match self.on.lifting.lift.axis {
+            Axis::Time => self.along_time::<UNDO>(from, area),
+            Axis::Channel => self.positions::<UNDO>(from, lines.count, area),
+        }
     }
 }

@@ -1,12 +1,12 @@
-ghost use Rattle.std.specs.Prelude.{◌≡◌, ◌+◌, ◌^◌, ◌≤◌, true};
-ghost use Rattle.sets.specs.Sets.{in_limits};
+ghost use Rattle.std.specs.Prelude.{◌≡◌, ◌^◌, ◌≤◌};
 ghost use Rattle.rules.specs.Lifted.{count_of};
 ghost use Rattle.stages.specs.Plain.{plain_lift};
 ghost use Rattle.transform.specs.Lined.{Lined};
 ghost use Rattle.stages.specs.declared.stage.Axis.TheVariants.{Time, Channel};
 
+use crate::lifting::Lifting;
 use crate::lines::Lines;
-use sets::shape::Shape;
+use crate::long_lines::LongLines;
 use stages::stage::{Axis, Lift};
 
 // The distance of two indices of a line, in places.
@@ -18,44 +18,53 @@ fn distance(lift: &Lift) -> usize
     1 << lift.level
 }
 
-// The lines along the samples of each channel that the lifting lists.
-pub(crate) fn along_time(shape: &Shape, lift: &Lift) -> Lines
-    requires { (in_limits shape.now ≡ true) × ((lift.now.first + lift.now.count ≤ shape.now.channels) × (lift.now.axis ≡ Time)) }
-    ensures { Lined shape.now (plain_lift lift.now) result }
-{
-    let by = distance(lift);
-    let first = lift.first_index(shape.origin as u32);
-    Lines {
-        start: lift.first * shape.samples + (first * by - shape.origin),
-        by,
-        lines: lift.count,
-        apart: shape.samples,
-        first,
-        count: lift.index_count(shape.origin as u32, shape.samples as u32),
+impl Lifting {
+    // The lines along the samples of each channel that the lifting lists.
+    pub(crate) fn along_time(&self) -> Lines
+        requires { self.now.lift.axis ≡ Time }
+        ensures { Lined self.now.shape (plain_lift self.now.lift) result }
+    {
+        let by = distance(&self.lift);
+        let first = self.lift.first_index(self.shape.origin as u32);
+        Lines {
+            start: self.lift.first * self.shape.samples + (first * by - self.shape.origin),
+            by,
+            lines: self.lift.count,
+            apart: self.shape.samples,
+            first,
+            count: self
+                .lift
+                .index_count(self.shape.origin as u32, self.shape.samples as u32),
+        }
     }
-}
 
-// The lines along the channels, one for each sample of a channel.
-fn along_channels(shape: &Shape, lift: &Lift) -> Lines
-    requires { (in_limits shape.now ≡ true) × ((lift.now.first + lift.now.count ≤ shape.now.channels) × ((lift.now.axis ≡ Channel) × (1 ≤ lift.now.count))) }
-    ensures { Lined shape.now (plain_lift lift.now) result }
-{
-    Lines {
-        start: lift.first * shape.samples,
-        by: distance(lift) * shape.samples,
-        lines: shape.samples,
-        apart: 1,
-        first: lift.first_index(0),
-        count: lift.index_count(0, lift.count as u32),
+    // The lines along the channels, one for each sample of a channel.
+    fn along_channels(&self) -> Lines
+        requires axis { self.now.lift.axis ≡ Channel }
+        requires some { 1 ≤ self.now.lift.count }
+        ensures { Lined self.now.shape (plain_lift self.now.lift) result }
+    {
+        Lines {
+            start: self.lift.first * self.shape.samples,
+            by: distance(&self.lift) * self.shape.samples,
+            lines: self.shape.samples,
+            apart: 1,
+            first: self.lift.first_index(0),
+            count: self.lift.index_count(0, self.lift.count as u32),
+        }
     }
-}
 
-pub(crate) fn lines_of(shape: &Shape, lift: &Lift) -> Lines
-    requires { (in_limits shape.now ≡ true) × ((lift.now.first + lift.now.count ≤ shape.now.channels) × (2 ≤ count_of shape.now (plain_lift lift.now))) }
-    ensures { Lined shape.now (plain_lift lift.now) result }
-{
-    match lift.axis {
-        Axis::Time => along_time(shape, lift),
-        Axis::Channel => along_channels(shape, lift),
+    pub(crate) fn long_lines(&self) -> LongLines
+        requires { 2 ≤ count_of self.now.shape (plain_lift self.now.lift) }
+        ensures { result.lifting ≡ self.now }
+    {
+        let lines = match self.lift.axis {
+            Axis::Time => self.along_time(),
+            Axis::Channel => self.along_channels(),
+        };
+        LongLines {
+            lifting: *self,
+            lines,
+        }
     }
 }

@@ -1,15 +1,12 @@
-ghost use Rattle.std.specs.Prelude.{◌≡◌, ℕ, ◌+◌, ◌*◌, ◌<◌, ◌≤◌, true, false, length, ℤ, ◌+ℤ◌, Some, None, ◌≢◌};
+ghost use Rattle.std.specs.Prelude.{◌≡◌, true, false, length, ℤ, ◌+ℤ◌, Some, None, ◌≢◌};
 ghost use Rattle.std.specs.Int.{int_wrap, w32};
 ghost use Rattle.sets.specs.Areas.{size_of};
-ghost use Rattle.sets.specs.Sets.{in_limits};
 ghost use Rattle.stages.specs.Plain.{plain_lift};
 ghost use Rattle.rules.specs.Lifted.{lone_odd};
-ghost use Rattle.transform.specs.Lone.{Double, Half, Spaced, OddAt, Doubled, Halved, NoHalf};
+ghost use Rattle.transform.specs.Lone.{Doubled, Halved, NoHalf};
 
-use crate::lining::along_time;
+use crate::lifting::Lifting;
 use crate::row::low_bits;
-use sets::shape::Shape;
-use stages::stage::Lift;
 
 // The double of a sample, in 32 bits that wrap.
 fn double(x: i32) -> i32
@@ -25,50 +22,36 @@ fn half(x: i32) -> Option<i32>
     if x % 2 == 0 { Some(x / 2) } else { None }
 }
 
-// Doubles each sample at `start + i * by`, for i below `count`.
-fn double_spaced(area: &mut [i32], start: usize, by: usize, count: usize)
-    requires { (((i : ℕ) → i < count → start + i * by < length area.old)) × (1 ≤ by) }
-    ensures { Spaced Double start by count area.old area.new }
-{
-    for i in 0..count {
-        area[start + i * by] = double(area[start + i * by]);
+// The samples of lines of one odd index are evenly spaced: an area is walked in place. Two loops, since only halving can fail.
+impl Lifting {
+    // Doubles the samples of lines of one odd index.
+    pub(crate) fn double_lone(&self, area: &mut [i32])
+        requires lone { lone_odd self.now.shape (plain_lift self.now.lift) ≡ true }
+        requires long { length area.old ≡ size_of self.now.shape }
+        ensures { Doubled self.now.shape (plain_lift self.now.lift) area.old area.new }
+    {
+        let lines = self.along_time();
+        for i in 0..lines.lines {
+            let a = lines.start + i * lines.apart;
+            area[a] = double(area[a]);
+        }
     }
-}
 
-// Halves the same samples. False where one is odd, and then the area may hold anything.
-fn halve_spaced(area: &mut [i32], start: usize, by: usize, count: usize) -> bool
-    requires { (((i : ℕ) → i < count → start + i * by < length area.old)) × (1 ≤ by) }
-    ensures even { result ≡ true → Spaced Half start by count area.old area.new }
-    ensures odd { result ≡ false → OddAt start by count area.old }
-{
-    for i in 0..count {
-        let Some(x) = half(area[start + i * by]) else {
-            return false;
-        };
-        area[start + i * by] = x;
+    // Halves the samples of lines of one odd index. False where one is odd, and then the area may hold anything.
+    pub(crate) fn halve_lone(&self, area: &mut [i32]) -> bool
+        requires lone { lone_odd self.now.shape (plain_lift self.now.lift) ≡ true }
+        requires long { length area.old ≡ size_of self.now.shape }
+        ensures even { result ≡ true → Halved self.now.shape (plain_lift self.now.lift) area.old area.new }
+        ensures odd { result ≡ false → NoHalf self.now.shape (plain_lift self.now.lift) area.old }
+    {
+        let lines = self.along_time();
+        for i in 0..lines.lines {
+            let a = lines.start + i * lines.apart;
+            let Some(x) = half(area[a]) else {
+                return false;
+            };
+            area[a] = x;
+        }
+        true
     }
-    true
-}
-
-// Doubles the samples of lines of one odd index.
-pub(crate) fn double_lone(shape: &Shape, lift: &Lift, area: &mut [i32])
-    requires limits { (in_limits shape.now ≡ true) × (lift.now.first + lift.now.count ≤ shape.now.channels) }
-    requires lone { lone_odd shape.now (plain_lift lift.now) ≡ true }
-    requires long { length area.old ≡ size_of shape.now }
-    ensures { Doubled shape.now (plain_lift lift.now) area.old area.new }
-{
-    let lines = along_time(shape, lift);
-    double_spaced(area, lines.start, lines.apart, lines.lines);
-}
-
-// Halves the samples of lines of one odd index. False where one is odd, and then the area may hold anything.
-pub(crate) fn halve_lone(shape: &Shape, lift: &Lift, area: &mut [i32]) -> bool
-    requires limits { (in_limits shape.now ≡ true) × (lift.now.first + lift.now.count ≤ shape.now.channels) }
-    requires lone { lone_odd shape.now (plain_lift lift.now) ≡ true }
-    requires long { length area.old ≡ size_of shape.now }
-    ensures even { result ≡ true → Halved shape.now (plain_lift lift.now) area.old area.new }
-    ensures odd { result ≡ false → NoHalf shape.now (plain_lift lift.now) area.old }
-{
-    let lines = along_time(shape, lift);
-    halve_spaced(area, lines.start, lines.apart, lines.lines)
 }

@@ -1,34 +1,40 @@
-ghost use Rattle.std.specs.Prelude.{◌≡◌, ◌+◌, ◌*◌, ◌<◌, ◌≤◌, length};
+ghost use Rattle.std.specs.Prelude.{◌≡◌, ◌+◌, ◌*◌, ◌<◌, ◌≤◌};
 ghost use Rattle.stages.specs.declared.stage.Axis.TheVariants.{Time};
 ghost use Rattle.transform.specs.Near.{Near};
 ghost use Rattle.transform.specs.Parts.{both};
-ghost use Rattle.transform.specs.Turns.{Ready, Hits, TurnedAt, from_to, on_line};
+ghost use Rattle.transform.specs.Turns.{Sized, Hits, TurnedAt, from_to, on_line};
 
 use crate::row::turn_row;
-use crate::sources::sources;
 use crate::turn::Turn;
 
-// A step on one channel, at `count` positions of its parity from j on, so far from the ends that all it reads is inside.
-fn turn_run<const UNDO: bool>(turn: &Turn, line: usize, j: usize, count: usize, area: &mut [i32])
-    requires ready { (Ready turn.now (length area.old)) × ((turn.now.lift.axis ≡ Time) × (Hits turn.now j)) }
-    requires near { Near turn.now.step }
-    requires inside { (line < turn.now.lines.lines) × ((32 ≤ j) × (j + 2 * count + 32 ≤ turn.now.lines.count)) }
-    ensures { TurnedAt UNDO turn.now (both (from_to turn.now j (j + 2 * count)) (on_line turn.now line)) area.old area.new }
-{
-    let from = sources(turn, line, j);
-    let lines = &turn.lines;
-    let to = lines.start + j * lines.by + line * lines.apart;
-    turn_row::<UNDO>(area, &turn.step.quotient, to, 2 * lines.by, count, &from);
-}
+impl Turn {
+    // The step on one channel, at `count` positions of its parity from j on, so far from the ends that all it reads is inside.
+    fn run<const UNDO: bool>(&self, line: usize, j: usize, count: usize, area: &mut [i32])
+        requires sized { Sized self.now area.old }
+        requires axis { self.now.on.lifting.lift.axis ≡ Time }
+        requires near { Near self.now.step }
+        requires line { line < self.now.on.lines.lines }
+        requires inside { (32 ≤ j) × (j + 2 * count + 32 ≤ self.now.on.lines.count) }
+        requires hits { Hits self.now j }
+        ensures { TurnedAt UNDO self.now (both (from_to self.now j (j + 2 * count)) (on_line self.now line)) area.old area.new }
+    {
+        let from = self.sources(line, j);
+        let lines = &self.on.lines;
+        let to = lines.start + j * lines.by + line * lines.apart;
+        turn_row::<UNDO>(area, &self.step.quotient, to, 2 * lines.by, count, &from);
+    }
 
-// The same on every channel of the lifting.
-pub(crate) fn turn_runs<const UNDO: bool>(turn: &Turn, j: usize, count: usize, area: &mut [i32])
-    requires ready { (Ready turn.now (length area.old)) × ((turn.now.lift.axis ≡ Time) × (Hits turn.now j)) }
-    requires near { Near turn.now.step }
-    requires inside { (32 ≤ j) × (j + 2 * count + 32 ≤ turn.now.lines.count) }
-    ensures { TurnedAt UNDO turn.now (from_to turn.now j (j + 2 * count)) area.old area.new }
-{
-    for line in 0..turn.lines.lines {
-        turn_run::<UNDO>(turn, line, j, count, area);
+    // The same on every channel of the lifting.
+    pub(crate) fn runs<const UNDO: bool>(&self, j: usize, count: usize, area: &mut [i32])
+        requires sized { Sized self.now area.old }
+        requires axis { self.now.on.lifting.lift.axis ≡ Time }
+        requires near { Near self.now.step }
+        requires inside { (32 ≤ j) × (j + 2 * count + 32 ≤ self.now.on.lines.count) }
+        requires hits { Hits self.now j }
+        ensures { TurnedAt UNDO self.now (from_to self.now j (j + 2 * count)) area.old area.new }
+    {
+        for line in 0..self.on.lines.lines {
+            self.run::<UNDO>(line, j, count, area);
+        }
     }
 }

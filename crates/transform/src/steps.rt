@@ -1,36 +1,54 @@
-ghost use Rattle.std.specs.Prelude.{◌≡◌, ◌+◌, ◌≤◌, true, length, drop};
+ghost use Rattle.std.specs.Prelude.{◌≡◌, length};
 ghost use Rattle.sets.specs.Areas.{size_of};
-ghost use Rattle.sets.specs.Sets.{in_limits};
-ghost use Rattle.stages.specs.Plain.{plain_lift, plain_steps};
-ghost use Rattle.rules.specs.Lifted.{count_of, lift_passes};
-ghost use Rattle.transform.specs.Turned.{Forth, Back};
+ghost use Rattle.stages.specs.Plain.{plain_lift, plain_step};
+ghost use Rattle.rules.specs.Lifted.{lift_pass};
+ghost use Rattle.transform.specs.Steps.{parity_at, passes_of};
+ghost use Rattle.transform.specs.Turned.{Turned, Forth, Back};
 
-use crate::lift::turn_step;
-use sets::shape::Shape;
-use stages::stage::{Lift, Parity};
+use crate::long_lines::LongLines;
+use crate::turn::Turn;
+use stages::stage::{Parity, Step};
 
-// The steps of a lifting from step k on, which change the parities in turn.
-pub(crate) fn apply_steps(shape: &Shape, lift: &Lift, k: usize, parity: Parity, area: &mut [i32])
-    requires limits { (in_limits shape.now ≡ true) × ((lift.now.first + lift.now.count ≤ shape.now.channels) × (2 ≤ count_of shape.now (plain_lift lift.now))) }
-    requires long { length area.old ≡ size_of shape.now }
-    ensures { Forth (lift_passes shape.now (plain_lift lift.now) parity (drop k (plain_steps lift.now))) area.old area.new }
-{
-    if k < lift.step_count {
-        let step = lift.steps[k];
-        turn_step::<false>(shape, lift, parity, &step, area);
-        apply_steps(shape, lift, k + 1, parity.other(), area);
+impl LongLines {
+    // The parity that step k changes: the steps change the parities in turn.
+    fn parity(&self, k: usize) -> Parity
+        ensures { result ≡ parity_at self.now.lifting.lift.parity k }
+    {
+        let first = self.lifting.lift.parity;
+        if k % 2 == 0 { first } else { first.other() }
     }
-}
 
-// The same steps undone, the last first.
-pub(crate) fn undo_steps(shape: &Shape, lift: &Lift, k: usize, parity: Parity, area: &mut [i32])
-    requires limits { (in_limits shape.now ≡ true) × ((lift.now.first + lift.now.count ≤ shape.now.channels) × (2 ≤ count_of shape.now (plain_lift lift.now))) }
-    requires long { length area.old ≡ size_of shape.now }
-    ensures { Back (lift_passes shape.now (plain_lift lift.now) parity (drop k (plain_steps lift.now))) area.old area.new }
-{
-    if k < lift.step_count {
-        let step = lift.steps[k];
-        undo_steps(shape, lift, k + 1, parity.other(), area);
-        turn_step::<true>(shape, lift, parity, &step, area);
+    // Carries out step k, or undoes it.
+    fn turn<const UNDO: bool>(&self, k: usize, step: &Step, area: &mut [i32])
+        requires { length area.old ≡ size_of self.now.lifting.shape }
+        ensures { Turned UNDO (lift_pass self.now.lifting.shape (plain_lift self.now.lifting.lift) (parity_at self.now.lifting.lift.parity k) (plain_step step.now)) area.old area.new }
+    {
+        let turn = Turn {
+            on: *self,
+            parity: self.parity(k),
+            step: *step,
+        };
+        turn.everywhere::<UNDO>(area);
+    }
+
+    // The steps in order.
+    pub(crate) fn apply_steps(&self, area: &mut [i32])
+        requires { length area.old ≡ size_of self.now.lifting.shape }
+        ensures { Forth (passes_of self.now.lifting) area.old area.new }
+    {
+        for (k, step) in self.lifting.lift.steps().iter().enumerate() {
+            self.turn::<false>(k, step, area);
+        }
+    }
+
+    // The steps undone, the last first.
+    pub(crate) fn undo_steps(&self, area: &mut [i32])
+        requires { length area.old ≡ size_of self.now.lifting.shape }
+        ensures { Back (passes_of self.now.lifting) area.old area.new }
+    {
+        let steps = self.lifting.lift.steps();
+        for k in (0..steps.len()).rev() {
+            self.turn::<true>(k, &steps[k], area);
+        }
     }
 }

@@ -1,13 +1,10 @@
-use crate::lines::Lines;
-use sets::shape::Shape;
-use stages::stage::{Lift, Parity, Step};
+use crate::long_lines::LongLines;
+use stages::stage::{Parity, Step};
 
-// One step of a lifting that is carried out: the step, the parity that it changes, and where the lines run.
+// One step of a lifting that is carried out: the lines, the parity that the step changes, and the step.
 #[derive(Clone, Copy)]
 pub(crate) struct Turn {
-    pub(crate) shape: Shape,
-    pub(crate) lift: Lift,
-    pub(crate) lines: Lines,
+    pub(crate) on: LongLines,
     pub(crate) parity: Parity,
     pub(crate) step: Step,
 }

@@ -1,0 +1,16 @@
+-- The steps of a lifting as the code takes them, by their numbers.
+use Rattle.std.specs.Prelude.{ℕ, ◌%◌, cond, List, ◌==◌}
+use Rattle.stages.specs.declared.stage.Parity.{Parity}
+use Rattle.stages.specs.Lifting.{other}
+use Rattle.stages.specs.Plain.{plain_lift, plain_steps}
+use Rattle.rules.specs.Lifted.{lift_passes}
+use Rattle.rules.specs.Passes.{Pass}
+use Rattle.transform.specs.declared.lifting.Lifting.{Lifting}
+
+-- the parity that step k changes, where the first changes m
+abbrev pub parity_at : Parity → ℕ → Parity
+parity_at m k = cond (k % 2 == 0) m (other m)
+
+-- the steps as passes of the rule
+abbrev pub passes_of : Lifting → List Pass
+passes_of s = lift_passes s.shape (plain_lift s.lift) s.lift.parity (plain_steps s.lift)
