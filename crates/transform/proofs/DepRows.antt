@@ -15,8 +15,10 @@ use Rattle.stages.specs.Plain.{PlainRow, taps_of}
 use Rattle.stages.specs.Quotients.{sum_of, quotient_of}
 use Rattle.rules.specs.Mixed.{before, row_quotient, row_pass}
 use Rattle.rules.proofs.Places.{address_below, address_split, time_below}
+use Rattle.transform.specs.declared.row.Row.{Row}
+use Rattle.transform.specs.Apart.{Apart}
 use Rattle.transform.specs.DepRows.{CutTo}
-use Rattle.transform.specs.Rowed.{quotient_at, Rowed, Fitted}
+use Rattle.transform.specs.Rowed.{place, quotient_at, Rowed, Fitted}
 use Rattle.transform.specs.Turned.{turned_by, Turned}
 use Rattle.transform.proofs.Rows.{reads_at}
 use Rattle.transform.proofs.Sums.{sum_cut, sum_short}
@@ -56,28 +58,47 @@ module _ (f : Shape) (first : ℕ) (rows : List PlainRow) (i : ℕ) (q : Quotien
   row-quotient xs t = λ d. floor_over (row_sum xs t d +ℤ cut.residue d) (cut.exponent d)
 
   module _ (inside : first + i < f.channels) where
-    pub row_fitted : (size : ℕ) → size ≡ size_of f → Fitted q ((first + i) * f.samples) 1 f.samples from size
-    row_fitted size l =
-        let few = cut.few in record {
-          inside = λ t h. omega (arith, address_below f (first + i) t inside h);
-          sources = λ k t h g. omega (arith, starts k (omega arith), address_below f (first + k) t (omega arith) g);
-          apart = λ k s t h g m e.
-              let there = div-mul-add (first + k) f.samples s g in
-              let here = div-mul-add (first + i) f.samples t m in
-              let same : (first + k) * f.samples + s ≡ (first + i) * f.samples + t = omega (arith, starts k (omega arith)) in
-              omega (arith, ap (λ a. a / f.samples) same);
-        }
+    pub row_apart : Apart q from ((first + i) * f.samples) 1 f.samples
+    row_apart k s t h g m e =
+        let few = cut.few in
+        let there = div-mul-add (first + k) f.samples s g in
+        let here = div-mul-add (first + i) f.samples t m in
+        let same : (first + k) * f.samples + s ≡ (first + i) * f.samples + t = omega (arith, starts k (omega arith)) in
+        omega (arith, ap (λ a. a / f.samples) same)
 
-    pub row_turned : (take : Bool) (xs ys : List ℤ) → length xs ≡ size_of f → Rowed take q ((first + i) * f.samples) 1 f.samples from xs ys → Turned (not take) (row_pass f first rows i) xs ys
-    row_turned take xs ys l r = record {
-      long = r.long;
-      hit = λ a h hit.
-          let t = a % f.samples in
-          let here : (first + i) * f.samples + t * 1 ≡ a = omega (arith, address_split f a, ap (λ c. c * f.samples) (eqb-true _ _ hit)) in
-          let old = r.hit t (time_below f a (omega arith)) in (
-            subst (λ b. SFits w32 (at xs b)) here old.0,
-            subst (λ b. at ys b ≡ int_wrap w32 (turned_by take (at xs b) (quotient_at q xs from (t * 1)))) here old.1
-                ∙ ap (λ z. int_wrap w32 (turned_by take (at xs a) z)) (row-quotient xs t) ∙ ap (int_wrap w32) (turned_opposite take (at xs a) (row_quotient f first rows xs i t)),
-          );
-      kept = λ a miss. r.kept a (λ t h e. eqb-false _ _ miss (ap (λ b. b / f.samples) e ∙ (λ d. ((first + i) * f.samples + mul-one t d) / f.samples) ∙ div-mul-add (first + i) f.samples t h));
-    }
+    -- the call over the whole of the row's channel
+    pub record Runs (r : Row) : Type 0 where
+      pub quotient : r.quotient ≡ q
+      pub reads : r.from ≡ from
+      pub to : r.to ≡ (first + i) * f.samples
+      pub by : r.by ≡ 1
+      pub count : r.count ≡ f.samples
+
+    module _ (r : Row) (e : Runs r) where
+      place_at : (t : ℕ) → place r t ≡ (first + i) * f.samples + t
+      place_at t = (λ d. e.to d + t * e.by d) ∙ (λ d. (first + i) * f.samples + mul-one t d)
+
+      pub row_fits : (size : ℕ) → size ≡ size_of f → Fitted r size
+      row_fits size l =
+          let few = cut.few in record {
+            inside = λ t h. omega (arith, place_at t, address_below f (first + i) t inside (omega (arith, e.count)));
+            sources = λ k t h g.
+                let below : k < i = omega (arith, ap (λ x. x.tap_count) e.quotient) in
+                let at : get_or r.from k 0 + t * r.by ≡ (first + k) * f.samples + t = (λ d. get_or (e.reads d) k 0 + t * e.by d) ∙ (λ d. starts k below d + mul-one t d) in
+                omega (arith, at, address_below f (first + k) t (omega arith) (omega (arith, e.count)));
+          }
+
+      pub row_turned : (take : Bool) (xs ys : List ℤ) → length xs ≡ size_of f → Rowed take r r.count xs ys → Turned (not take) (row_pass f first rows i) xs ys
+      row_turned take xs ys l d = record {
+        long = d.long;
+        hit = λ a h hit.
+            let t = a % f.samples in
+            let here : place r t ≡ a = omega (arith, place_at t, address_split f a, ap (λ c. c * f.samples) (eqb-true _ _ hit)) in
+            let old = d.hit t (omega (arith, e.count, time_below f a (omega arith))) in
+            let amount : quotient_at r.quotient xs r.from (t * r.by) ≡ row_quotient f first rows xs i t = (λ u. quotient_at (e.quotient u) xs (e.reads u) (t * e.by u)) ∙ row-quotient xs t in (
+              subst (λ b. SFits w32 (at xs b)) here old.0,
+              subst (λ b. at ys b ≡ int_wrap w32 (turned_by take (at xs b) (quotient_at r.quotient xs r.from (t * r.by)))) here old.1
+                  ∙ ap (λ z. int_wrap w32 (turned_by take (at xs a) z)) amount ∙ ap (int_wrap w32) (turned_opposite take (at xs a) (row_quotient f first rows xs i t)),
+            );
+        kept = λ a miss. d.kept a (λ t h o. eqb-false _ _ miss (ap (λ b. b / f.samples) (o ∙ place_at t) ∙ div-mul-add (first + i) f.samples t (omega (arith, e.count))));
+      }

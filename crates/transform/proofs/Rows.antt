@@ -9,7 +9,8 @@ use Rattle.sets.specs.Areas.{at}
 use Rattle.stages.specs.declared.quotient.Quotient.{Quotient}
 use Rattle.stages.specs.Plain.{taps_of}
 use Rattle.stages.specs.Quotients.{quotient_of}
-use Rattle.transform.specs.Rowed.{quotient_at, Rowed, Fitted}
+use Rattle.transform.specs.declared.row.Row.{Row}
+use Rattle.transform.specs.Rowed.{place, quotient_at, turned_at, Rowed, Fitted}
 use Rattle.transform.specs.Turned.{turned_by}
 
 -- the samples that a quotient reads
@@ -26,29 +27,32 @@ same-quotient q xs ys from shift same =
     (fill_by_all (λ k. at ys (get_or from k 0 + shift)) (reads_at q xs from shift) q.tap_count (pos 0) (length-map-range_with_len _ 0 q.tap_count)
     (λ k h. get_or-map-range_with_len (λ k. at xs (get_or from k 0 + shift)) 0 q.tap_count k k (pos 0) h (omega arith) ∙ same k h))
 
-module _ (undo : Bool) (q : Quotient) (to by : ℕ) (from : List ℕ) (xs : List ℤ) where
-  pub rowed-none : Rowed undo q to by 0 from xs xs
+module _ (undo : Bool) (r : Row) (xs : List ℤ) where
+  pub rowed-none : Rowed undo r 0 xs xs
   rowed-none = record { long = refl; hit = λ i h. absurd (omega arith); kept = λ a h. refl }
 
-  module _ (n i : ℕ) (ys : List ℤ) (step : 1 ≤ by) (below : i < n) (r : Rowed undo q to by i from xs ys) where
+  module _ (i : ℕ) (ys : List ℤ) (below : i < r.count) (d : Rowed undo r i xs ys) where
+    rise : (j : ℕ) → j < i → place r j < place r i
+    rise j h = omega (arith, places_rise j i r.by r.spaced h)
+
     -- what the turn at i reads stood there from the start
-    pub row_old : at ys (to + i * by) ≡ at xs (to + i * by)
-    row_old = r.kept (to + i * by) (λ j h e. omega (arith, places_rise j i by step h))
+    row_old : at ys (place r i) ≡ at xs (place r i)
+    row_old = d.kept (place r i) (λ j h e. omega (arith, rise j h))
 
-    pub row_reads : Fitted q to by n from (length xs) → quotient_at q ys from (i * by) ≡ quotient_at q xs from (i * by)
-    row_reads f = same-quotient q ys xs from (i * by) (λ k h. r.kept _ (λ j g e. f.apart k i j h below (omega arith) e))
+    row_reads : quotient_at r.quotient ys r.from (i * r.by) ≡ quotient_at r.quotient xs r.from (i * r.by)
+    row_reads = same-quotient r.quotient ys xs r.from (i * r.by) (λ k h. d.kept _ (λ j g e. r.apart k i j h below (omega arith) e))
 
-    pub rowed-more : (v : ℤ) → Fitted q to by n from (length xs) → SFits w32 (at ys (to + i * by)) → v ≡ int_wrap w32 (turned_by undo (at ys (to + i * by)) (quotient_at q ys from (i * by))) → Rowed undo q to by (i + 1) from xs (set ys (to + i * by) v)
+    rowed-more : (v : ℤ) → Fitted r (length xs) → SFits w32 (at ys (place r i)) → v ≡ turned_at undo r ys i → Rowed undo r (i + 1) xs (set ys (place r i) v)
     rowed-more v f fits e =
-        let inside : to + i * by < length ys = omega (arith, f.inside i below, r.long) in
+        let inside : place r i < length ys = omega (arith, f.inside i below, d.long) in
         record {
-          long = length-set ys (to + i * by) v ∙ r.long;
+          long = length-set ys (place r i) v ∙ d.long;
           hit = below_more _ _
-              (λ j h. let ne : to + j * by ≢ to + i * by = (λ x. omega (arith, places_rise j i by step h)) in ((r.hit j h).0, rw get_or-set_other (r.hit j h).1))
-              (rw row_old at fits, rw get_or-set_same (e ∙ (λ t. int_wrap w32 (turned_by undo (row_old t) (row_reads f t)))));
-          kept = λ a h. let ne : a ≢ to + i * by = h i (omega arith) in rw get_or-set_other (r.kept a (λ j l. h j (omega arith)));
+              (λ j h. let ne : place r j ≢ place r i = (λ x. omega (arith, rise j h)) in ((d.hit j h).0, rw get_or-set_other (d.hit j h).1))
+              (rw row_old at fits, rw get_or-set_same (e ∙ (λ t. int_wrap w32 (turned_by undo (row_old t) (row_reads t)))));
+          kept = λ a h. let ne : a ≢ place r i = h i (omega arith) in rw get_or-set_other (d.kept a (λ j l. h j (omega arith)));
         }
 
     -- the same for an area that is known to be so changed
-    pub rowed-one-more : (zs : List ℤ) → Fitted q to by n from (length xs) → SFits w32 (at ys (to + i * by)) → zs ≡ set ys (to + i * by) (int_wrap w32 (turned_by undo (at ys (to + i * by)) (quotient_at q ys from (i * by)))) → Rowed undo q to by (i + 1) from xs zs
-    rowed-one-more zs f fits e = subst (Rowed undo q to by (i + 1) from xs) (sym e) (rowed-more _ f fits refl)
+    pub rowed-one-more : (zs : List ℤ) → Fitted r (length xs) → SFits w32 (at ys (place r i)) → zs ≡ set ys (place r i) (turned_at undo r ys i) → Rowed undo r (i + 1) xs zs
+    rowed-one-more zs f fits e = subst (Rowed undo r (i + 1) xs) (sym e) (rowed-more _ f fits refl)

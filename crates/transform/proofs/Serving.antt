@@ -17,9 +17,11 @@ use Rattle.rules.specs.Lifted.{address_of, inside_of, changes, lift_pass}
 use Rattle.rules.specs.Passes.{Pass}
 use Rattle.rules.proofs.LiftIndices.{extended-below, extended-from-parity, source_parity}
 use Rattle.transform.specs.declared.lines.Lines.{Lines}
+use Rattle.transform.specs.declared.row.Row.{Row}
+use Rattle.transform.specs.Apart.{Apart}
 use Rattle.transform.specs.Lined.{spot, Spot, line_at, Lined}
 use Rattle.transform.specs.Parts.{part_of, index_at, of_index}
-use Rattle.transform.specs.Rowed.{quotient_at, Rowed, Fitted}
+use Rattle.transform.specs.Rowed.{place, quotient_at, Rowed, Fitted}
 use Rattle.transform.specs.Turned.{Turned, turned_by}
 
 module _ (f : Shape) (l : PlainLift) (n : Lines) (m : Parity) (s : Step) where
@@ -40,6 +42,9 @@ module _ (f : Shape) (l : PlainLift) (n : Lines) (m : Parity) (s : Step) where
     pub all : (a : ℕ) → a < size_of f → changes f l m (a / f.samples) (a % f.samples) ≡ true → w a ≡ true → (i : ℕ) × (i < count) × (a ≡ to + i * by)
 
   module _ (lined : Lined f l n) (many : 2 ≤ n.count) where
+    abbrev pass : Pass
+    pass = lift_pass f l m (plain_step s)
+
     pub read_below : (j k : ℕ) → read_index_at j k < n.count
     read_below j k = extended-below l.extension n.count _ many
 
@@ -63,20 +68,13 @@ module _ (f : Shape) (l : PlainLift) (n : Lines) (m : Parity) (s : Step) where
       read_other : (j k : ℕ) → (n.first + read_index_at j k) % 2 ≡ 1 - parity_of m
       read_other j k = extended-from-parity l.extension n.count n.first _ many ∙ source_parity m (n.first + j) s.offset k
 
-      pub served_fits : (size : ℕ) → size ≡ size_of f → Fitted s.quotient to by count from size
-      served_fits size long = record {
-        inside = λ i h. omega (arith, (spot-at i h).below);
-        sources = λ k i g h. omega (arith, (read_spot i k h g).below);
-        apart = λ k i j g h b e.
-            let same : n.first + read_index_at (v.position i) k ≡ n.first + v.position j = sym (read_spot i k h g).index ∙ ap (index_at f l) e ∙ (spot-at j b).index in
-            omega (arith, read_other (v.position i) k, v.parity j b, ap (λ x. x % 2) same);
-      }
+      pub served_apart : Apart s.quotient from to by count
+      served_apart k i j g h b e =
+          let same : n.first + read_index_at (v.position i) k ≡ n.first + v.position j = sym (read_spot i k h g).index ∙ ap (index_at f l) e ∙ (spot-at j b).index in
+          omega (arith, read_other (v.position i) k, v.parity j b, ap (λ x. x % 2) same)
 
       hit_at : (i : ℕ) → i < count → changes f l m ((to + i * by) / f.samples) ((to + i * by) % f.samples) ≡ true
       hit_at i h = let o = spot-at i h in and_from _ _ o.hit (eq-eqb _ _ (ap (λ x. x % 2) o.index ∙ v.parity i h))
-
-      abbrev pass : Pass
-      pass = lift_pass f l m (plain_step s)
 
       -- the amount of the rule is the quotient that the call works out
       amount_at : (xs : List ℤ) (i : ℕ) → i < count → quotient_at s.quotient xs from (i * by) ≡ pass.amount xs (to + i * by)
@@ -92,12 +90,23 @@ module _ (f : Shape) (l : PlainLift) (n : Lines) (m : Parity) (s : Step) where
           (λ k g. get_or-map-range_with_len (λ k. at xs (get_or from k 0 + i * by)) 0 q.tap_count k k (pos 0) g (omega arith) ∙ each k g)
           ∙ ap (λ c. map reads (range_with_len 0 c)) (sym taps))
 
-      module _ (undo : Bool) (xs ys : List ℤ) (long : length xs ≡ size_of f) (d : Rowed undo s.quotient to by count from xs ys) where
+    -- the call as a row
+    module _ (w : ℕ → Bool) (r : Row) (v : Served w r.to r.by r.count r.from) (same : r.quotient ≡ s.quotient) where
+      pub served_fits : (size : ℕ) → size ≡ size_of f → Fitted r size
+      served_fits size long = record {
+        inside = λ i h. omega (arith, (spot-at w r.to r.by r.count r.from v i h).below);
+        sources = λ k i g h. omega (arith, (read_spot w r.to r.by r.count r.from v i k h (subst (λ q. k < q.tap_count) same g)).below);
+      }
+
+      module _ (undo : Bool) (xs ys : List ℤ) (long : length xs ≡ size_of f) (d : Rowed undo r r.count xs ys) where
         abbrev Made : ℕ → Type 0
         Made a = SFits w32 (at xs a) × (at ys a ≡ int_wrap w32 (turned_by undo (at xs a) (pass.amount xs a)))
 
-        made_at : (i : ℕ) → i < count → Made (to + i * by)
-        made_at i h = ((d.hit i h).0, (d.hit i h).1 ∙ ap (λ x. int_wrap w32 (turned_by undo (at xs (to + i * by)) x)) (amount_at xs i h))
+        made_at : (i : ℕ) → i < r.count → Made (place r i)
+        made_at i h = (
+          (d.hit i h).0,
+          (d.hit i h).1 ∙ ap (λ x. int_wrap w32 (turned_by undo (at xs (place r i)) x)) (ap (λ q. quotient_at q xs r.from (i * r.by)) same ∙ amount_at w r.to r.by r.count r.from v xs i h),
+        )
 
         pub served_turned : Turned undo (part_of pass w) xs ys
         served_turned = record {
@@ -106,7 +115,7 @@ module _ (f : Shape) (l : PlainLift) (n : Lines) (m : Parity) (s : Step) where
               let b = and_parts (pass.hits a) (w a) t in
               let found = v.all a (omega arith) b.0 b.1 in
               subst Made (sym found.2) (made_at found.0 found.1);
-          kept = λ a t. d.kept a (λ i h e. both_ways _ t (subst (λ x. (pass.hits x && w x) ≡ true) (sym e) (and_from _ _ (hit_at i h) (v.told i h))));
+          kept = λ a t. d.kept a (λ i h e. both_ways _ t (subst (λ x. (pass.hits x && w x) ≡ true) (sym e) (and_from _ _ (hit_at w r.to r.by r.count r.from v i h) (v.told i h))));
         }
 
 -- a call across the lines serves one position of each

@@ -1,4 +1,5 @@
 pub mod Turned
+pub mod Apart
 pub mod Rowed
 pub mod DepRows
 pub mod Colours

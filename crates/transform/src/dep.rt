@@ -7,7 +7,7 @@ ghost use Rattle.transform.specs.DepRows.{CutTo};
 ghost use Rattle.transform.specs.Turned.{Turned, Forth, Back};
 
 use crate::dep_rows::DepRows;
-use crate::row::turn_row;
+use crate::row::Row;
 use stages::quotient::Quotient;
 
 impl DepRows {
@@ -40,14 +40,14 @@ impl DepRows {
     {
         let quotient = self.row(i);
         let from = self.starts();
-        turn_row::<TAKE>(
-            area,
-            &quotient,
-            (self.dep.first + i) * self.shape.samples,
-            1,
-            self.shape.samples,
-            &from,
-        );
+        let row = Row {
+            quotient,
+            from,
+            to: (self.dep.first + i) * self.shape.samples,
+            by: 1,
+            count: self.shape.samples,
+        };
+        row.turn::<TAKE>(area);
     }
 
     // Applies the rows, the last first: in this order each reads old samples alone.

@@ -3,7 +3,7 @@ ghost use Rattle.stages.specs.declared.stage.Axis.TheVariants.{Time};
 ghost use Rattle.transform.specs.Turned.{Turned};
 ghost use Rattle.transform.specs.Turns.{Sized, Hits, TurnedAt, pass_of, at_position, from_to};
 
-use crate::row::turn_row;
+use crate::row::Row;
 use crate::turn::Turn;
 use stages::stage::Axis;
 
@@ -20,14 +20,14 @@ impl Turn {
     {
         let from = self.sources(0, j);
         let lines = &self.on.lines;
-        turn_row::<UNDO>(
-            area,
-            &self.step.quotient,
-            lines.start + j * lines.by,
-            lines.apart,
-            lines.lines,
-            &from,
-        );
+        let row = Row {
+            quotient: self.step.quotient,
+            from,
+            to: lines.start + j * lines.by,
+            by: lines.apart,
+            count: lines.lines,
+        };
+        row.turn::<UNDO>(area);
     }
 
     // The step at the positions of its parity from `from` on and below `to`.

@@ -6,7 +6,7 @@ ghost use Rattle.rules.specs.Lifted.{lone_odd};
 ghost use Rattle.transform.specs.Lone.{Doubled, Halved, NoHalf};
 
 use crate::lifting::Lifting;
-use crate::row::low_bits;
+use crate::low_bits::low_bits;
 
 // The double of a sample, in 32 bits that wrap.
 fn double(x: i32) -> i32

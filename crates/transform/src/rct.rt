@@ -5,7 +5,7 @@ ghost use Rattle.sets.specs.Sets.{in_limits};
 ghost use Rattle.stages.specs.Floors.{floor_over};
 ghost use Rattle.transform.specs.Colours.{recoloured, Recoloured, RctTurned};
 
-use crate::row::low_bits;
+use crate::low_bits::low_bits;
 use sets::shape::Shape;
 use stages::stage::Rct;
 

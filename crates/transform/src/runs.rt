@@ -4,7 +4,7 @@ ghost use Rattle.transform.specs.Near.{Near};
 ghost use Rattle.transform.specs.Parts.{both};
 ghost use Rattle.transform.specs.Turns.{Sized, Hits, TurnedAt, from_to, on_line};
 
-use crate::row::turn_row;
+use crate::row::Row;
 use crate::turn::Turn;
 
 impl Turn {
@@ -20,8 +20,14 @@ impl Turn {
     {
         let from = self.sources(line, j);
         let lines = &self.on.lines;
-        let to = lines.start + j * lines.by + line * lines.apart;
-        turn_row::<UNDO>(area, &self.step.quotient, to, 2 * lines.by, count, &from);
+        let row = Row {
+            quotient: self.step.quotient,
+            from,
+            to: lines.start + j * lines.by + line * lines.apart,
+            by: 2 * lines.by,
+            count,
+        };
+        row.turn::<UNDO>(area);
     }
 
     // The same on every channel of the lifting.

@@ -9,16 +9,16 @@ use Rattle.stages.specs.Plain.{taps_of}
 use Rattle.stages.specs.Quotients.{quotient_of}
 use Rattle.transform.proofs.Rows.{reads_at}
 use Rattle.transform.proofs.Sums.{sum_more, sum_all}
-use Rattle.transform.proofs.row.quotient_at.Goals as goal
+use Rattle.transform.proofs.row.Row.quotient_at.Goals as goal
 
 pub overflow_add-sum : goal.overflow_add-sum
 overflow_add-sum g c = omega (arith, ints)
 
 pub loop-k-preserved : goal.loop-k-preserved
 loop-k-preserved g c =
-    let q = c.args.quotient.now in
+    let q = c.args.self.now.quotient in
     let xs = c.args.area.now in
-    let from = c.args.from.now in
+    let from = c.args.self.now.from in
     let k = c.loop-k.k in
     let here : k < q.tap_count = omega arith in
     let below : k < length (taps_of q) = simp length-take (omega arith) in
@@ -38,10 +38,10 @@ loop-k-preserved g c =
 pub returns : goal.returns
 unfolding quotient_of
 returns g c =
-    let q = c.args.quotient.now in
+    let q = c.args.self.now.quotient in
     let over : length (taps_of q) ≤ c.loop-k.k = simp length-take (omega arith) in
     let r : SFits w64 c.floor.result = search rules in
-    let s = sum_all (taps_of q) (reads_at q c.args.area.now c.args.from.now c.args.shift) c.loop-k.k _ _ over c.loop-k.invariant.0 in
+    let s = sum_all (taps_of q) (reads_at q c.args.area.now c.args.self.now.from c.args.shift) c.loop-k.k _ _ over c.loop-k.invariant.0 in
     let e = to_z-of_z w64 _ r ∙ c.floor.ensures.value in
     record {
       value = e ∙ ap (λ z. floor_over z q.exponent) s;

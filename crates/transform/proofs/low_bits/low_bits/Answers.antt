@@ -2,7 +2,7 @@ use Rattle.std.proofs.Common.{ap, ◌∙◌, w32, w64, SFits, to_z, rules}
 use Rattle.std.specs.Int.Bits.{bit_and}
 use Rattle.std.proofs.lemmas.Int.{to_z-of_z}
 use Rattle.transform.proofs.LowBits.{masked_wrapped}
-use Rattle.transform.proofs.row.low_bits.Goals as goal
+use Rattle.transform.proofs.low_bits.low_bits.Goals as goal
 
 pub returns : goal.returns
 returns c =
