@@ -4,6 +4,7 @@ ghost use Rattle.stages.specs.Floors.{floor_over, IsFloor};
 use crate::quotient::Quotient;
 
 // The floor of z / 2^e, since a machine shifts a signed number toward minus infinity.
+#[tactic(auto, using(crate::proofs::Floors::is_floor), unfolding(crate::specs::Floors::floor_over))]
 pub(crate) fn shifted(z: i64, e: u32) -> i64
     requires { e ≤ 16 }
     ensures value { result ≡ floor_over z e }

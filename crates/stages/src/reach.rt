@@ -1,5 +1,6 @@
-ghost use Rattle.std.specs.Prelude.{◌≡◌, ◌^◌, pos, neg_ℤ, ◌≤ℤ◌};
+ghost use Rattle.std.specs.Prelude.{◌≡◌, ◌^◌, ◌≤◌, pos, neg_ℤ, ◌≤ℤ◌};
 
+use crate::floor::shifted;
 use sets::span::Span;
 
 // The least and the greatest of a quotient, or of any other number that may be wider than a sample.
@@ -28,6 +29,7 @@ impl From<Span> for Reach {
 }
 
 impl Reach {
+    ghost use Rattle.stages.specs.Floors.{floor_over};
     ghost use Rattle.stages.specs.Made.{between, wide_of};
 
     // The numbers with their signs turned.
@@ -38,5 +40,15 @@ impl Reach {
             least: -self.greatest,
             greatest: -self.least,
         }
+    }
+
+    // The floors of both over 2^e.
+    pub(crate) fn floored(&self, e: u32) -> Reach
+        requires { e ≤ 16 }
+        ensures { wide_of result ≡ between (floor_over self.now.least e) (floor_over self.now.greatest e) }
+    {
+        let least = shifted(self.least, e);
+        let greatest = shifted(self.greatest, e);
+        Reach { least, greatest }
     }
 }

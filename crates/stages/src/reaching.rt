@@ -4,7 +4,6 @@ ghost use Rattle.stages.specs.Made.{wide_of};
 ghost use Rattle.stages.specs.Plain.{taps_of};
 ghost use Rattle.stages.specs.Quotients.{least_sum, greatest_sum, reach_of, Extremes};
 
-use crate::floor::shifted;
 use crate::product::weighed;
 use crate::quotient::Quotient;
 use crate::ranges::row_at;
@@ -33,9 +32,6 @@ impl Quotient {
         ensures greatest { result.greatest ≡ (reach_of (taps_of self.now) self.now.residue self.now.exponent (rows_of sources.now)).greatest }
         ensures extremes { Extremes (taps_of self.now) self.now.residue self.now.exponent (rows_of sources.now) (wide_of result) }
     {
-        let sum = self.summed(sources);
-        let least = shifted(sum.least, self.exponent);
-        let greatest = shifted(sum.greatest, self.exponent);
-        Reach { least, greatest }
+        self.summed(sources).floored(self.exponent)
     }
 }
