@@ -13,7 +13,6 @@ mod lift_channel;
 mod lift_spans;
 mod lift_time;
 mod line;
-mod lines;
 mod outside;
 mod parity;
 pub mod product;

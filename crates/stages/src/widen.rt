@@ -43,7 +43,7 @@ impl Stage {
 
     // The spans after the stage; none where a bound is beyond 32 bits.
     #[tactic(auto, using(crate::proofs::Plains::rows_count), unfolding(crate::specs::Plain::plain))]
-    fn widened(&self, set: &Checked, spans: &SpanList) -> Option<SpanList>
+    fn spans_after(&self, set: &Checked, spans: &SpanList) -> Option<SpanList>
         requires { end_of (plain self.now) ≤ length (rows_of spans.now) }
         ensures { AllNarrowed result (bounds_made set.now.shape (plain self.now) (rows_of spans.now)) (spans_after set.now.shape (plain self.now) (rows_of spans.now)) }
     {
@@ -66,7 +66,7 @@ impl Stage {
             return Err(Refusal::DoesNotFit);
         }
         let set = Checked { shape: *shape };
-        self.widened(&set, spans).ok_or(Refusal::TooWide)
+        self.spans_after(&set, spans).ok_or(Refusal::TooWide)
     }
 
     // Replaces the spans by those after the stage.

@@ -37,4 +37,4 @@ returns c =
     let a : in_limits c.args.shape.now ≡ true = limits_kept _ c.in_ok-check.ensures in
     let b : eqb (length (rows_of c.args.spans.now)) c.args.shape.now.channels ≡ true = eq-eqb _ _ (omega arith) in
     let d : fits_in (plain c.args.self.now) c.args.shape.now.channels ≡ true = search rules in
-    rw (a, b, d, c.ok_or.ensures.value) (too-wide _ _ _ c.widened.ensures)
+    rw (a, b, d, c.ok_or.ensures.value) (too-wide _ _ _ c.spans_after.ensures)
