@@ -71,3 +71,6 @@ pub nearest-above : (n : ℕ) (z : ℤ) → pos 0 ≤ℤ z → n ≤ nat_abs z �
 unfolding nearest
 nearest-above n (pos k) g h = cond-false _ _ _ (le-ltb k n h)
 nearest-above n (negsuc k) g h = absurd (omega (arith, ints))
+
+-- the three cases of the nearest index
+pub ruleset nearest_cases = (nearest-below, nearest-inside, nearest-above)

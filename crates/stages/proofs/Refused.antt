@@ -18,6 +18,6 @@ limits_left true e h = let z : ◌≡◌ {A = ℕ} 0 1 = cc in absurd (omega ari
 limits_left false e h = (refl, cc)
 
 -- after all other tests
-pub too-wide : (o : Option SpanList) (t : Bool) (bs : List Bounds) → MadeList o t bs → Ruled (ok_or o TooWide) (unless t TooWide None) bs
-too-wide None t bs h = rw h refl
-too-wide (Some l) t bs h = (rw h.0 refl, h.1)
+pub too_wide : (o : Option SpanList) (t : Bool) (bs : List Bounds) → MadeList o t bs → Ruled (ok_or o TooWide) (unless t TooWide None) bs
+too_wide None t bs h = rw h refl
+too_wide (Some l) t bs h = (rw h.0 refl, h.1)

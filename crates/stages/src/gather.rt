@@ -5,6 +5,7 @@ use sets::span::Span;
 use sets::span_list::SpanList;
 
 // A list of so many spans, each made by its number; none where one cannot be made.
+#[tactic(auto, using(crate::proofs::Gathers::listed_none, crate::proofs::Gathers::listed_all))]
 pub(crate) fn gathered<F: Fn(usize) -> Option<Span>>(count: usize, row: F) -> Option<SpanList>
     requires room { count ≤ 64 }
     requires callable { (i : ℕ) → i < count → F.pre row i }
@@ -19,6 +20,7 @@ pub(crate) fn gathered<F: Fn(usize) -> Option<Span>>(count: usize, row: F) -> Op
 }
 
 // The same where each can be made.
+#[tactic(auto, using(crate::proofs::Gathers::listed_none, crate::proofs::Gathers::listed_all))]
 pub(crate) fn listed<F: Fn(usize) -> Span>(count: usize, row: F) -> SpanList
     requires room { count ≤ 64 }
     requires callable { (i : ℕ) → i < count → F.pre row i }

@@ -37,6 +37,7 @@ impl Indices {
     }
 
     // The nearest inside index of the same parity.
+    #[tactic(auto, using(crate::proofs::Mirrors::nearest_cases))]
     fn nearest(&self, index: i64) -> usize
         ensures { result ≡ nearest self.now.count index }
     {

@@ -55,6 +55,7 @@ impl Stage {
     }
 
     // The spans after the stage, or why there are none.
+    #[tactic(auto, using(crate::proofs::Refused::limits_kept, crate::proofs::Refused::limits_left, crate::proofs::Refused::too_wide), unfolding(crate::specs::Stages::spans_refused))]
     fn after(&self, shape: &Shape, spans: &SpanList) -> Result<SpanList, Refusal>
         ensures { Ruled result (spans_refused shape.now (plain self.now) (rows_of spans.now)) (spans_after shape.now (plain self.now) (rows_of spans.now)) }
     {
