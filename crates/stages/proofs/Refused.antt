@@ -21,3 +21,5 @@ limits_left false e h = (refl, cc)
 pub too_wide : (o : Option SpanList) (t : Bool) (bs : List Bounds) → MadeList o t bs → Ruled (ok_or o TooWide) (unless t TooWide None) bs
 too_wide None t bs h = rw h refl
 too_wide (Some l) t bs h = (rw h.0 refl, h.1)
+
+pub ruleset refusals = (limits_kept, limits_left, too_wide)

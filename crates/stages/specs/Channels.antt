@@ -18,16 +18,17 @@ luma a b c = record {
 abbrev pub coloured : ℕ → Bounds → Bounds → Bounds → List Bounds → ℕ → Bounds
 coloured first y0 y1 y2 bs c = cond (c == first) y0 (cond (c == first + 1) y1 (cond (c == first + 2) y2 (at bs c)))
 
+abbrev pub recoloured : ℕ → Bounds → Bounds → Bounds → List Bounds → List Bounds
+recoloured first y0 y1 y2 bs = map (coloured first y0 y1 y2 bs) (range_with_len 0 (length bs))
+
 -- Y1 = I2 - I1 and Y2 = I0 - I1
 abbrev pub rct_after : ℕ → List Bounds → List Bounds
 rct_after first bs =
-    map
-    (coloured first
+    recoloured first
     (luma (at bs first) (at bs (first + 1)) (at bs (first + 2)))
     (lowered (at bs (first + 2)) (at bs (first + 1)))
     (lowered (at bs first) (at bs (first + 1)))
-    bs)
-    (range_with_len 0 (length bs))
+    bs
 
 -- the three new spans, which are all the bounds that it makes
 abbrev pub rct_made : ℕ → List Bounds → List Bounds

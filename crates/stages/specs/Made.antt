@@ -1,11 +1,13 @@
 -- What is made, or not made since a bound is beyond signed 32 bits.
 use Rattle.std.specs.Prelude.{◌≡◌, ℕ, ◌<◌, Bool, true, false, ◌&&◌, List, [], ◌∷◌, length, ℤ, Some, None, Option, MatchOption}
 use Rattle.sets.specs.declared.bounds.Bounds.{Bounds}
+use Rattle.sets.specs.declared.shape.Shape.{Shape}
 use Rattle.sets.specs.declared.span.Span.{Span}
 use Rattle.sets.specs.declared.span_list.SpanList.{SpanList}
 use Rattle.sets.specs.Sets.{bounds_of, rows_of}
 use Rattle.stages.specs.declared.reach.Reach.{Reach}
 use Rattle.stages.specs.declared.stage.Lift.{Lift}
+use Rattle.stages.specs.Lifting.{channel_made, channel_after}
 use Rattle.stages.specs.Plain.{PlainLift, PlainStep, plain_lift, plain_steps}
 use Rattle.stages.specs.Ranges.{fits, all_fit, at}
 
@@ -33,6 +35,10 @@ AllNarrowed r made bs = MadeList r (all_fit made) bs
 -- the same of what a lifting makes of x
 abbrev pub LiftMakes : {X : Type 0} → Option SpanList → (PlainLift → List PlainStep → X → List Bounds) → (PlainLift → List PlainStep → X → List Bounds) → Lift → X → Type 0
 LiftMakes r made after l x = AllNarrowed r (made (plain_lift l) (plain_steps l) x) (after (plain_lift l) (plain_steps l) x)
+
+-- the span of a channel after a lifting along its samples
+abbrev pub ChannelMakes : Option Span → Shape → Lift → Bounds → Type 0
+ChannelMakes r f l b = MadeSpan r (all_fit (channel_made f (plain_lift l) (plain_steps l) b)) (channel_after f (plain_lift l) (plain_steps l) b)
 
 -- the test passes at each number of the list
 abbrev pub every : (ℕ → Bool) → List ℕ → Bool

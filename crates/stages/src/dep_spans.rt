@@ -26,7 +26,7 @@ impl Dep {
     // The spans after the rows; none where a bound is beyond 32 bits.
     pub(crate) fn spans_after(&self, spans: &SpanList) -> Option<SpanList>
         requires { self.now.first + self.now.count ≤ length (rows_of spans.now) }
-        ensures { AllNarrowed result (dep_made self.now.first (plain_rows self.now) (rows_of spans.now)) (dep_after self.now.first (plain_rows self.now) (rows_of spans.now)) }
+        ensures { let rows = plain_rows self.now in let bs = rows_of spans.now in AllNarrowed result (dep_made self.now.first rows bs) (dep_after self.now.first rows bs) }
     {
         gathered(spans.len(), |channel| {
             if self.first < channel && channel < self.first + self.count {

@@ -1,13 +1,21 @@
-ghost use Rattle.std.specs.Prelude.{◌+◌, ◌≤◌, length};
+ghost use Rattle.std.specs.Prelude.{◌≡◌, ◌+◌, ◌≤◌, length};
 ghost use Rattle.sets.specs.Sets.{rows_of};
-ghost use Rattle.stages.specs.Lifting.{lift_after, lift_made};
+ghost use Rattle.stages.specs.Lifting.{lists_channel, lift_after, lift_made};
 ghost use Rattle.stages.specs.Made.{LiftMakes};
+ghost use Rattle.stages.specs.Plain.{plain_lift};
 
 use crate::checked::Checked;
 use crate::stage::{Axis, Lift};
 use sets::span_list::SpanList;
 
 impl Lift {
+    // Whether the lifting lists a channel.
+    pub(crate) fn lists(&self, channel: usize) -> bool
+        ensures { result ≡ lists_channel (plain_lift self.now) channel }
+    {
+        self.first <= channel && channel < self.first + self.count
+    }
+
     // The spans after the lifting; none where a bound is beyond 32 bits.
     pub(crate) fn spans_after(&self, set: &Checked, spans: &SpanList) -> Option<SpanList>
         requires { self.now.first + self.now.count ≤ length (rows_of spans.now) }

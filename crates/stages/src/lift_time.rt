@@ -1,9 +1,7 @@
 ghost use Rattle.std.specs.Prelude.{◌≡◌, ◌+◌, ◌≤◌, [], ◌∷◌, length};
 ghost use Rattle.sets.specs.Sets.{bounds_of, rows_of};
-ghost use Rattle.stages.specs.Lifting.{lists_channel, channel_ends, channel_after, channel_made, samples_made, samples_after};
-ghost use Rattle.stages.specs.Made.{MadeSpan, LiftMakes};
-ghost use Rattle.stages.specs.Plain.{plain_steps, plain_lift};
-ghost use Rattle.stages.specs.Ranges.{all_fit};
+ghost use Rattle.stages.specs.Lifting.{channel_ends, channel_made, samples_made, samples_after};
+ghost use Rattle.stages.specs.Made.{ChannelMakes, LiftMakes};
 
 use crate::checked::Checked;
 use crate::gather::gathered;
@@ -40,18 +38,11 @@ impl Lift {
 
     // The span of a channel after the lifting along its samples.
     fn channel_after(&self, set: &Checked, span: &Span) -> Option<Span>
-        ensures { MadeSpan result (all_fit (channel_made set.now.shape (plain_lift self.now) (plain_steps self.now) (bounds_of span.now))) (channel_after set.now.shape (plain_lift self.now) (plain_steps self.now) (bounds_of span.now)) }
+        ensures { ChannelMakes result set.now.shape self.now (bounds_of span.now) }
     {
         let ends = self.channel_ends(set, span)?;
         let both = join(&row_at(&ends, 0), &row_at(&ends, 1));
         Some(join(span, &both))
-    }
-
-    // Whether the lifting lists a channel.
-    pub(crate) fn lists(&self, channel: usize) -> bool
-        ensures { result ≡ lists_channel (plain_lift self.now) channel }
-    {
-        self.first <= channel && channel < self.first + self.count
     }
 
     // The spans after the lifting along the samples.

@@ -1,7 +1,6 @@
-ghost use Rattle.std.specs.Prelude.{◌≡◌, map, length};
-ghost use Rattle.std.specs.List.{range_with_len};
+ghost use Rattle.std.specs.Prelude.{◌≡◌};
 ghost use Rattle.sets.specs.Sets.{bounds_of, rows_of};
-ghost use Rattle.stages.specs.Channels.{luma, coloured, rct_after, rct_made};
+ghost use Rattle.stages.specs.Channels.{luma, recoloured, rct_after, rct_made};
 ghost use Rattle.stages.specs.Made.{Narrowed, AllNarrowed};
 
 use crate::colour::luma;
@@ -25,7 +24,7 @@ fn luma_span(a: &Span, b: &Span, c: &Span) -> Option<Span>
 impl Rct {
     // The spans with three new ones in place.
     fn recoloured(&self, spans: &SpanList, y0: Span, y1: Span, y2: Span) -> SpanList
-        ensures { rows_of result ≡ map (coloured self.now.first (bounds_of y0) (bounds_of y1) (bounds_of y2) (rows_of spans.now)) (range_with_len 0 (length (rows_of spans.now))) }
+        ensures { rows_of result ≡ recoloured self.now.first (bounds_of y0) (bounds_of y1) (bounds_of y2) (rows_of spans.now) }
     {
         listed(spans.len(), |channel| {
             if channel == self.first {

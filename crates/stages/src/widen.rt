@@ -45,7 +45,7 @@ impl Stage {
     #[tactic(auto, using(crate::proofs::Plains::rows_count), unfolding(crate::specs::Plain::plain))]
     fn spans_after(&self, set: &Checked, spans: &SpanList) -> Option<SpanList>
         requires { end_of (plain self.now) ≤ length (rows_of spans.now) }
-        ensures { AllNarrowed result (bounds_made set.now.shape (plain self.now) (rows_of spans.now)) (spans_after set.now.shape (plain self.now) (rows_of spans.now)) }
+        ensures { let bs = rows_of spans.now in AllNarrowed result (bounds_made set.now.shape (plain self.now) bs) (spans_after set.now.shape (plain self.now) bs) }
     {
         match self {
             Stage::Lift(lift) => lift.spans_after(set, spans),
@@ -55,9 +55,9 @@ impl Stage {
     }
 
     // The spans after the stage, or why there are none.
-    #[tactic(auto, using(crate::proofs::Refused::limits_kept, crate::proofs::Refused::limits_left, crate::proofs::Refused::too_wide), unfolding(crate::specs::Stages::spans_refused))]
+    #[tactic(auto, using(crate::proofs::Refused::refusals), unfolding(crate::specs::Stages::spans_refused))]
     fn after(&self, shape: &Shape, spans: &SpanList) -> Result<SpanList, Refusal>
-        ensures { Ruled result (spans_refused shape.now (plain self.now) (rows_of spans.now)) (spans_after shape.now (plain self.now) (rows_of spans.now)) }
+        ensures { let bs = rows_of spans.now in Ruled result (spans_refused shape.now (plain self.now) bs) (spans_after shape.now (plain self.now) bs) }
     {
         shape.check()?;
         if spans.len() != shape.channels {
