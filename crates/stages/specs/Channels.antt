@@ -1,11 +1,11 @@
 -- What the colour transform and dependency rows do to spans: the least and the greatest of each formula over the old spans.
-use Rattle.std.specs.Prelude.{ℕ, zero, suc, ◌+◌, ◌-◌, ◌^◌, Bool, true, cond, ◌&&◌, List, [], ◌∷◌, map, length, take, drop, pos, ◌+ℤ◌, ◌*ℤ◌, ◌==◌, nat_lt, slice_index_or}
+use Rattle.std.specs.Prelude.{ℕ, zero, suc, ◌+◌, ◌-◌, ◌^◌, cond, ◌&&◌, List, [], ◌∷◌, map, length, take, drop, pos, ◌+ℤ◌, ◌*ℤ◌, ◌==◌, nat_lt, slice_index_or}
 use Rattle.std.specs.List.{range_with_len}
 use Rattle.sets.specs.declared.bounds.Bounds.{Bounds}
 use Rattle.stages.specs.Floors.{floor_over}
 use Rattle.stages.specs.Plain.{PlainRow}
 use Rattle.stages.specs.Quotients.{reach_of}
-use Rattle.stages.specs.Ranges.{lowered, fits, at}
+use Rattle.stages.specs.Ranges.{lowered, at}
 
 -- Y0 = floor((I0 + 2 × I1 + I2) / 4)
 abbrev pub luma : Bounds → Bounds → Bounds → Bounds
@@ -59,10 +59,6 @@ taken first n bs = take n (drop first bs)
 -- a channel after rows over n channels: x_0 is unchanged
 abbrev pub dep_at : ℕ → ℕ → List PlainRow → List Bounds → ℕ → Bounds
 dep_at first n rows bs c = cond (nat_lt first c && nat_lt c (first + n)) (row_after rows (taken first n bs) (c - first)) (at bs c)
-
--- the channel's bound is within 32 bits
-abbrev pub dep_fits : ℕ → ℕ → List PlainRow → List Bounds → ℕ → Bool
-dep_fits first n rows bs c = cond (nat_lt first c && nat_lt c (first + n)) (fits (row_after rows (taken first n bs) (c - first))) true
 
 -- the channels are one more than the rows
 abbrev pub dep_after : ℕ → List PlainRow → List Bounds → List Bounds

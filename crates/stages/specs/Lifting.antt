@@ -1,7 +1,7 @@
 -- What lifting does to spans.
 -- A line's spans stand in slots. Along the channels each index of the line has a slot of its own;
 -- along the samples of a channel there are two, one for the even indices and one for the odd.
-use Rattle.std.specs.Prelude.{ℕ, ◌+◌, ◌-◌, ◌*◌, ◌/◌, ◌%◌, ◌^◌, Bool, true, cond, ◌&&◌, List, [], ◌∷◌, ◌++◌, map, length, ℤ, pos, ◌+ℤ◌, ◌*ℤ◌, ◌==◌, nat_le, nat_lt, unsigned_abs}
+use Rattle.std.specs.Prelude.{ℕ, ◌+◌, ◌-◌, ◌*◌, ◌/◌, ◌%◌, ◌^◌, Bool, cond, ◌&&◌, List, [], ◌∷◌, ◌++◌, map, length, ℤ, pos, ◌+ℤ◌, ◌*ℤ◌, ◌==◌, nat_le, nat_lt, unsigned_abs}
 use Rattle.std.specs.List.{range_with_len, flat_map}
 use Rattle.sets.specs.declared.bounds.Bounds.{Bounds}
 use Rattle.sets.specs.declared.shape.Shape.{Shape}
@@ -9,10 +9,10 @@ use Rattle.stages.specs.declared.stage.Axis.{Axis}
 use Rattle.stages.specs.declared.stage.Axis.TheVariants.{Time, Channel}
 use Rattle.stages.specs.declared.stage.Parity.{Parity}
 use Rattle.stages.specs.declared.stage.Parity.TheVariants.{Even, Odd}
-use Rattle.stages.specs.Lines.{first_index, index_count, extended}
+use Rattle.stages.specs.Lines.{index_count, lone_odd, extended}
 use Rattle.stages.specs.Plain.{PlainLift, PlainStep}
 use Rattle.stages.specs.Quotients.{reach_of}
-use Rattle.stages.specs.Ranges.{raised, hull, doubled, at, all_fit}
+use Rattle.stages.specs.Ranges.{raised, hull, doubled, at}
 
 abbrev pub parity_of : Parity → ℕ
 parity_of Even = 0
@@ -56,7 +56,7 @@ by_parity z = unsigned_abs z % 2
 abbrev pub channel_ends : Shape → PlainLift → List PlainStep → Bounds → List Bounds
 channel_ends f l ss b =
     cond (nat_le 2 (index_count l.level f.origin f.samples)) (ended by_parity l.parity ss (b ∷ b ∷ []))
-    (cond (index_count l.level f.origin f.samples == 1 && first_index l.level f.origin % 2 == 1) (doubled b ∷ b ∷ []) (b ∷ b ∷ []))
+    (cond (lone_odd l.level f.origin f.samples) (doubled b ∷ b ∷ []) (b ∷ b ∷ []))
 
 abbrev pub channel_after : Shape → PlainLift → List PlainStep → Bounds → Bounds
 channel_after f l ss b = hull b (hull (at (channel_ends f l ss b) 0) (at (channel_ends f l ss b) 1))
@@ -92,9 +92,6 @@ line_made l ss bs = cond (nat_le 2 (line_length l)) (walked (extended l.extensio
 -- a channel after a lifting along the samples, and after one along the channels whose line has ended as es
 abbrev pub time_at : Shape → PlainLift → List PlainStep → List Bounds → ℕ → Bounds
 time_at f l ss bs c = cond (lists_channel l c) (channel_after f l ss (at bs c)) (at bs c)
-
-abbrev pub time_fits : Shape → PlainLift → List PlainStep → List Bounds → ℕ → Bool
-time_fits f l ss bs c = cond (lists_channel l c) (all_fit (channel_made f l ss (at bs c))) true
 
 abbrev pub channel_at : PlainLift → List Bounds → List Bounds → ℕ → Bounds
 channel_at l es bs c = cond (on_line l c) (hull (at bs c) (at es (index_of l c))) (at bs c)

@@ -22,7 +22,7 @@ impl Line {
         if slot % 2 != parity.number() {
             return Some(span);
         }
-        let read = listed(step.quotient.tap_count, |tap| {
+        let read = listed(step.quotient.taps().len(), |tap| {
             let index = step.source_index(parity, slot as u32, tap as u32);
             row_at(slots, self.slot(index))
         });

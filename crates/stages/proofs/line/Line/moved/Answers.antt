@@ -1,5 +1,4 @@
 use Rattle.std.proofs.Common.{◌≡◌, ◌%◌, length, sym, ap, ◌∙◌, subst, arith, rules}
-use Rattle.std.proofs.lemmas.List.{length-take-le}
 use Rattle.std.proofs.lemmas.Bool.{cond-true, eq-eqb}
 use Rattle.sets.specs.Sets.{bounds_of, rows_of}
 use Rattle.stages.specs.Lifting.{parity_of, source_index, sources_of, slot_after}
@@ -18,8 +17,7 @@ returns c =
     let i = c.args.slot in
     let bs = rows_of c.args.slots.now in
     let slot = slot_of c.args.self.now in
-    let taps : length (taps_of q) ≡ q.tap_count = length-take-le q.tap_count q.taps (omega arith) in
-    let read : rows_of c.listed-read.result ≡ sources_of slot c.args.parity (plain_step s) bs i = listed_rows _ _ _ c.listed-read.ensures (λ k. at bs (slot (source_index (parity_of c.args.parity) i s.offset k))) (λ k h s r. search rules) _ (sym taps) in
+    let read : rows_of c.listed-read.result ≡ sources_of slot c.args.parity (plain_step s) bs i = listed_rows _ _ _ c.listed-read.ensures (λ k. at bs (slot (source_index (parity_of c.args.parity) i s.offset k))) (λ k h s r. search rules) _ (ap length c.taps.ensures) in
     let reach : wide_of c.reach.result ≡ reach_of (taps_of q) q.residue q.exponent (sources_of slot c.args.parity (plain_step s) bs i) = (λ j. between (c.reach.ensures.least j) (c.reach.ensures.greatest j)) ∙ ap (reach_of (taps_of q) q.residue q.exponent) read in
     let hit : i % 2 ≡ parity_of c.args.parity = omega arith in
     let e : raised (bounds_of c.row_at-span.result) (wide_of c.reach.result) ≡ slot_after slot c.args.parity (plain_step s) bs i = (λ j. raised (c.row_at-span.ensures.value j) (reach j)) ∙ sym (cond-true _ _ _ (eq-eqb _ _ hit)) in
