@@ -28,8 +28,7 @@ impl Quotient {
 
     // The least and the greatest quotient, each sample being anywhere in its span.
     pub fn reach(&self, sources: &SpanList) -> Reach
-        ensures least { result.least ≡ (reach_of (taps_of self.now) self.now.residue self.now.exponent (rows_of sources.now)).least }
-        ensures greatest { result.greatest ≡ (reach_of (taps_of self.now) self.now.residue self.now.exponent (rows_of sources.now)).greatest }
+        ensures value { wide_of result ≡ reach_of (taps_of self.now) self.now.residue self.now.exponent (rows_of sources.now) }
         ensures extremes { Extremes (taps_of self.now) self.now.residue self.now.exponent (rows_of sources.now) (wide_of result) }
     {
         self.summed(sources).floored(self.exponent)

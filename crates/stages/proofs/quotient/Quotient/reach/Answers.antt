@@ -14,8 +14,4 @@ returns c =
     let bs = rows_of c.args.sources.now in
     let sum = c.summed.ensures in
     let is : wide_of c.floored.result ≡ reach_of (taps_of q) q.residue q.exponent bs = c.floored.ensures ∙ (λ i. between (floor_over (sum.least i) q.exponent) (floor_over (sum.greatest i) q.exponent)) in
-    record {
-      least = λ i. (is i).least;
-      greatest = λ i. (is i).greatest;
-      extremes = subst (Extremes (taps_of q) q.residue q.exponent bs) (sym is) (reach_extremes (taps_of q) q.residue q.exponent bs (rows_rising c.args.sources.now));
-    }
+    record { value = is; extremes = subst (Extremes (taps_of q) q.residue q.exponent bs) (sym is) (reach_extremes (taps_of q) q.residue q.exponent bs (rows_rising c.args.sources.now)) }
