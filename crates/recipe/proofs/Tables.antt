@@ -8,15 +8,11 @@ use Rattle.stages.specs.declared.stage.Stage.{Stage}
 use Rattle.stages.specs.declared.stage.Stage.TheVariants.{Lift as in_lift, Dep as in_dep, Rct as in-rct}
 use Rattle.stages.specs.Plain.{steps_of}
 use Rattle.recipe.specs.declared.table.Recipe.{Recipe}
-use Rattle.recipe.specs.Grammar.{Sofar, at_hand, form_inside, with_step, with_row}
+use Rattle.recipe.specs.Grammar.{at_hand, form_inside, with_step, with_row}
 use Rattle.stages.specs.Plain.{Plain, PlainStep, PlainRow, PlainLift, lift, dep, rct, plain, plain_step, plain_row}
 use Rattle.recipe.specs.Tables.{table_of}
 use Rattle.recipe.specs.Room.{room_in}
 use Rattle.recipe.specs.Rules.{step, row, same}
-
--- the stages ts, with n lines still due
-abbrev pub sofar : ℕ → List Plain → Sofar
-sofar n ts = record { stages = ts; left = n }
 
 -- all stages but the last
 abbrev pub front : List Stage → ℕ → List Plain
@@ -82,9 +78,6 @@ module _ (r : Recipe) (due : 0 < room_in (at_hand (table_of r))) (s d : Stage) (
       let full = r.full in
       let short = r.short in
       last_of r.stages r.len d some (omega arith) ∙ ap (λ s. front r.stages r.len ++ plain s ∷ []) is
-
-  pub at-hand : at_hand (table_of r) ≡ Some (plain s)
-  at-hand = ap at_hand ends ∙ at_hand-last (front r.stages r.len) (plain s)
 
 -- the form of a line of a lifting, and of dependency rows
 pub step-form : (l : Lift) (v : List ℕ) → form_inside (Some (plain (in_lift l))) v ≡ cond (same v (codes "STEP")) (Some step) None

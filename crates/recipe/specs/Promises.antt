@@ -1,8 +1,8 @@
 -- The shapes of what the parts of the reader promise one another.
-use Rattle.std.specs.Prelude.{◌≡◌, ℕ, ◌+◌, ◌<◌, ◌≤◌, min, Bool, ◌&&◌, nat_le, cond, List, [], ◌∷◌, ◌++◌, length, ℤ, pos, negsuc, ◌≤ℤ◌, Some, None, Ok, Err, Option, Result}
+use Rattle.std.specs.Prelude.{◌≡◌, ℕ, ◌+◌, ◌<◌, ◌≤◌, min, ◌&&◌, nat_le, nat_lt, int_le, cond, List, [], ◌∷◌, ◌++◌, length, ℤ, pos, negsuc, ◌≤ℤ◌, Some, None, Ok, Err, Option, Result}
 use Rattle.sets.specs.Sets.{bounds_of}
 use Rattle.recipe.specs.declared.begun.Begun.{Begun}
-use Rattle.recipe.specs.declared.fault.Cause.TheVariants.{FieldCount, WordDue}
+use Rattle.recipe.specs.declared.fault.Cause.TheVariants.{FieldCount, StageCount, WordDue}
 use Rattle.recipe.specs.declared.fault.Fault.{Fault}
 use Rattle.recipe.specs.declared.line.Line.{Line}
 use Rattle.recipe.specs.declared.request.Request.{Request}
@@ -34,6 +34,14 @@ abbrev pub Judged : {X : Type 0} → Option Fault → (X → Type 0) → Result 
 Judged o P (Ok x) = (o ≡ None) × P x
 Judged o P (Err f) = o ≡ Some f
 
+-- an answer that is a fault or nothing
+abbrev pub Passes : Option Fault → Result Unit Fault → Type 0
+Passes o r = Judged o (λ _. Unit {0}) r
+
+-- the number z, if it lies between the limits
+abbrev pub within : ℤ → ℤ → ℤ → Option ℤ
+within least greatest z = cond (int_le least z && int_le z greatest) (Some z) None
+
 -- the number z as it is handed out, between its limits
 pub record Held (least greatest z v : ℤ) : Type 0 where
   pub is : v ≡ z
@@ -49,9 +57,17 @@ pub record Counted (least greatest : ℕ) (z : ℤ) (n : ℕ) : Type 0 where
 abbrev pub fields_in : Line → List (List ℕ)
 fields_in l = fields_of l.bytes.now
 
--- whether a line has from least to greatest fields behind its word
-abbrev pub has_behind : ℕ → ℕ → Line → Bool
-has_behind least greatest l = nat_le (least + 1) (length (fields_in l)) && nat_le (length (fields_in l)) (greatest + 1)
+-- the fault of a line that must have from least to greatest fields behind its word
+abbrev pub wrong_count : ℕ → ℕ → Line → Option Fault
+wrong_count least greatest l = cond (nat_le (least + 1) (length (fields_in l)) && nat_le (length (fields_in l)) (greatest + 1)) None (fault_at FieldCount l.number)
+
+-- the fault of a line that must also begin with the word w
+abbrev pub wrong_head : List ℕ → ℕ → ℕ → Line → Option Fault
+wrong_head w least greatest l = cond (same (field (fields_in l) 0) w) (wrong_count least greatest l) (fault_at WordDue l.number)
+
+-- the fault of a line by which a stage would begin behind the stages ts, with so many fields behind its word
+abbrev pub wrong_start : List Plain → ℕ → Line → Option Fault
+wrong_start ts behind l = cond (nat_lt (length ts) 16) (wrong_count behind behind l) (fault_at StageCount l.number)
 
 -- the first field of a line, from field k on, that breaks its rule
 abbrev pub wrong_from : Line → ℕ → List Rule → Option Fault
@@ -74,6 +90,10 @@ pub record Begins (s : Plain) (n : ℕ) (b : Begun) : Type 0 where
 pub record Opened (ts : List Plain) (l : Line) (b : Begun) : Type 0 where
   pub room : length ts < 16
   pub is : taken (record { stages = ts; left = 0 }) (fields_in l) ≡ record { stages = ts ++ plain b.stage ∷ []; left = b.left }
+
+-- the answer to a line where no line is due behind the stages ts
+abbrev pub Opens : List Plain → Line → Result Begun Fault → Type 0
+Opens ts l r = Judged (line_fault (record { stages = ts; left = 0 }) l.number (fields_in l)) (Opened ts l) r
 
 -- the answer to a line of the stage p at hand: with its step or row the stage is t, whatever stages come before it, and n lines are due then
 abbrev pub Grows : Plain → Line → Result Stage Fault → Type 0

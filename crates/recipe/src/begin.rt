@@ -1,7 +1,4 @@
-ghost use Rattle.std.specs.Prelude.{◌≡◌, ◌<◌, length, if◌then◌else◌, None, nat_lt};
-ghost use Rattle.recipe.specs.declared.fault.Cause.TheVariants.{FieldCount, StageCount};
-ghost use Rattle.recipe.specs.Grammar.{fault_at, line_fault};
-ghost use Rattle.recipe.specs.Promises.{Judged, Opened, fields_in, has_behind};
+ghost use Rattle.recipe.specs.Promises.{Opens, Passes, wrong_start};
 ghost use Rattle.recipe.specs.Tables.{table_of};
 
 use crate::begun::Begun;
@@ -13,7 +10,7 @@ use crate::table::Recipe;
 impl Recipe {
     // Refuses a stage that has no room, and then a line that has not so many fields behind its word.
     fn holds(&self, line: &Line, behind: usize) -> Result<(), Fault>
-        ensures { Judged (if nat_lt (length (table_of self.now)) 16 then (if has_behind behind behind line.now then None else fault_at FieldCount line.now.number) else fault_at StageCount line.now.number) (λ _. Unit {0}) result }
+        ensures { Passes (wrong_start (table_of self.now) behind line.now) result }
     {
         if self.len == 16 {
             return Err(line.fault(Cause::StageCount, 0));
@@ -23,7 +20,7 @@ impl Recipe {
 
     // The stage that a line begins.
     pub(crate) fn stage_line(&self, line: &Line) -> Result<Begun, Fault>
-        ensures { Judged (line_fault (record { stages = table_of self.now; left = 0 }) line.now.number (fields_in line.now)) (Opened (table_of self.now) line.now) result }
+        ensures { Opens (table_of self.now) line.now result }
     {
         if line.begins(b"LIFT") {
             self.holds(line, 7)?;

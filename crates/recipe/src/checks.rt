@@ -1,8 +1,6 @@
-ghost use Rattle.std.specs.Prelude.{◌≡◌, ◌+◌, ◌^◌, ◌<◌, true, [], ◌∷◌, pos, if◌then◌else◌, None};
-ghost use Rattle.recipe.specs.declared.fault.Cause.TheVariants.{FieldCount, WordDue};
-ghost use Rattle.recipe.specs.Grammar.{fault_at};
+ghost use Rattle.std.specs.Prelude.{◌≡◌, ◌+◌, ◌^◌, ◌<◌, true, [], ◌∷◌, pos, if◌then◌else◌};
 ghost use Rattle.recipe.specs.Fields.{is_word};
-ghost use Rattle.recipe.specs.Promises.{Judged, Held, Counted, fields_in, has_behind, wrong_from};
+ghost use Rattle.recipe.specs.Promises.{Counted, Held, Judged, Passes, fields_in, wrong_count, wrong_from, wrong_head};
 ghost use Rattle.recipe.specs.Rules.{between, listed, same, field as at, number as number_at};
 
 use crate::fault::{Cause, Fault};
@@ -10,7 +8,7 @@ use crate::field::Field;
 use crate::line::Line;
 use crate::numbers::value_within;
 
-impl<'a> Line<'a> {
+impl Line<'_> {
     // The fault of field `k`, from 0; faults name fields from 1.
     pub(crate) fn fault(&self, cause: Cause, k: usize) -> Fault
         requires { k < 16 }
@@ -36,7 +34,7 @@ impl<'a> Line<'a> {
 
     // Refuses a line that has not from `least` to `greatest` fields behind its word.
     pub(crate) fn sized(&self, least: usize, greatest: usize) -> Result<(), Fault>
-        ensures { Judged (if has_behind least greatest self.now then None else fault_at FieldCount self.now.number) (λ _. Unit {0}) result }
+        ensures { Passes (wrong_count least greatest self.now) result }
     {
         let behind = self.commas();
         if behind < least || behind > greatest {
@@ -48,7 +46,7 @@ impl<'a> Line<'a> {
     // Refuses a line that does not begin with `word`, and then one whose number of fields is wrong.
     pub(crate) fn begun(&self, word: &[u8], least: usize, greatest: usize) -> Result<(), Fault>
         requires { is_word word.now ≡ true }
-        ensures { Judged (if same (at (fields_in self.now) 0) word.now then (if has_behind least greatest self.now then None else fault_at FieldCount self.now.number) else fault_at WordDue self.now.number) (λ _. Unit {0}) result }
+        ensures { Passes (wrong_head word.now least greatest self.now) result }
     {
         if !self.begins(word) {
             return Err(self.fault(Cause::WordDue, 0));
@@ -69,7 +67,9 @@ impl<'a> Line<'a> {
 
     // The number in field `k`, if it is one from `least` to `greatest`.
     pub(crate) fn natural(&self, k: usize, least: usize, greatest: usize) -> Result<usize, Fault>
-        requires { (k < 16) × ((least < 2 ^ 31) × (greatest < 2 ^ 31)) }
+        requires field { k < 16 }
+        requires low { least < 2 ^ 31 }
+        requires high { greatest < 2 ^ 31 }
         ensures { Judged (wrong_from self.now k (between (pos least) (pos greatest) ∷ [])) (Counted least greatest (number_at (fields_in self.now) k)) result }
     {
         let value = self.number(k, least as i32, greatest as i32)?;

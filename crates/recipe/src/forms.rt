@@ -14,10 +14,12 @@ use stages::stage::{Axis, Dep, Extension, Lift, Parity, Rct, Stage, Step};
 
 // The numbers of the `n` fields from field `from` on, as taps.
 fn taps(line: &Line, from: usize, n: usize) -> Result<[i16; 8], Fault>
-    requires { (from ≤ 4) × (n ≤ 8) }
-    ensures { Judged (wrong_from line.now from (replicate n tap_rule)) (λ ts. (take n ts ≡ numbers (fields_in line.now) from n) × (length ts ≡ 8)) result }
+    requires from { from ≤ 4 }
+    requires few { n ≤ 8 }
+    ensures { Judged (wrong_from line.now from (replicate n tap_rule)) (λ ts. take n ts ≡ numbers (fields_in line.now) from n) result }
 {
     let mut found: [i16; 8] = [0; 8];
+    // By index: of what is written through an adapter of `iter_mut` nothing is known afterwards.
     for i in 0..n {
         let tap = line.number(from + i, -32768, 32767)?;
         found[i] = tap as i16;
@@ -111,7 +113,8 @@ pub(crate) fn rct_line(line: &Line) -> Result<Begun, Fault>
 
 // The fields of a STEP line with `n` taps.
 fn step_line(line: &Line, n: usize) -> Result<Step, Fault>
-    requires { (n ≤ 8) × (length (fields_in line.now) ≡ n + 4) }
+    requires few { n ≤ 8 }
+    requires fields { length (fields_in line.now) ≡ n + 4 }
     ensures { Judged (wrong_as step line.now) (λ s. plain_step s ≡ step_from (fields_in line.now)) result }
 {
     let offset = line.number(1, -8, 8)?;
@@ -149,7 +152,8 @@ fn half(exponent: usize) -> i32
 
 // The fields of the ROW line of row `i`, from 1.
 fn row_line(line: &Line, i: usize) -> Result<Quotient, Fault>
-    requires { (i ≤ 7) × (length (fields_in line.now) ≡ i + 2) }
+    requires few { i ≤ 7 }
+    requires fields { length (fields_in line.now) ≡ i + 2 }
     ensures { Judged (wrong_as (row i) line.now) (λ q. plain_row q ≡ row_from (fields_in line.now)) result }
 {
     let exponent = line.natural(1, 0, 16)?;

@@ -30,7 +30,7 @@ fn is_number(bytes: &[u8]) -> bool
 }
 
 // The field that the bytes make.
-pub(crate) fn kind<'a>(bytes: &'a [u8]) -> Field<'a>
+pub(crate) fn kind(bytes: &[u8]) -> Field<'_>
     ensures { Shows result bytes.now }
 {
     match bytes {

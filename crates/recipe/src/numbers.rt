@@ -1,6 +1,6 @@
-ghost use Rattle.std.specs.Prelude.{◌≡◌, min, ◌&&◌, if◌then◌else◌, Some, None, int_le};
+ghost use Rattle.std.specs.Prelude.{◌≡◌, min};
 ghost use Rattle.recipe.specs.Fields.{read_on, value_of};
-ghost use Rattle.recipe.specs.Promises.{capped};
+ghost use Rattle.recipe.specs.Promises.{capped, within};
 
 // The number that digits write, or 4,294,967,295 for any above: no limit is as high.
 fn magnitude(digits: &[u8]) -> u32
@@ -24,7 +24,7 @@ fn value(number: &[u8]) -> i64
 
 // The value of a number, if it lies between the limits.
 pub(crate) fn value_within(number: &[u8], least: i32, greatest: i32) -> Option<i32>
-    ensures { result ≡ (if int_le least (value_of number.now) && int_le (value_of number.now) greatest then Some (value_of number.now) else None) }
+    ensures { result ≡ within least greatest (value_of number.now) }
 {
     let value = i32::try_from(value(number)).ok()?;
     (least..=greatest).contains(&value).then_some(value)

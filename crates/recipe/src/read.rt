@@ -21,7 +21,7 @@ pub(crate) fn recipe_from(text: &[u8], first: usize) -> Result<Recipe, Fault>
         left: 0,
     };
     let mut rest = text;
-    let mut number = first;
+    let mut number = first; // counted here, since the end of the text has a number too
     while let Some((bytes, after)) = first_line(rest) {
         reading.take(&Line { bytes, number })?;
         rest = after;

@@ -30,5 +30,5 @@ returns c =
     let fits : SFits w32 c.half-residue.result = search rules in
     let n : c.args.i ≡ length (fields_in line) - 2 = omega arith in (
       past-exponent (at-returns c).In_ok-exponent ∙ taps.0,
-      alike_rows (ap nat_abs (sym e)) (to_z-of_z w32 _ fits ∙ c.half-residue.ensures ∙ ap (λ z. pos (half_of (nat_abs z))) (sym e)) (taps.1.0 ∙ ap (numbers (fields_in line) 2) n),
+      alike_rows (ap nat_abs (sym e)) (to_z-of_z w32 _ fits ∙ c.half-residue.ensures ∙ ap (λ z. pos (half_of (nat_abs z))) (sym e)) (taps.1 ∙ ap (numbers (fields_in line) 2) n),
     )

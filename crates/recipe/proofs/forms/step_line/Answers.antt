@@ -56,5 +56,5 @@ returns c =
     let fits' : SFits w32 c.in_ok-residue.residue = search rules in
     let n : c.args.n ≡ length (fields_in line) - 4 = omega arith in (
       past-offset so.In_ok-offset ∙ past-exponent so.In_ok-exponent ∙ past-residue so.In_ok-residue ∙ by_taps so.In_ok-residue ∙ taps.0,
-      alike_steps (to_z-of_z w32 _ fits ∙ c.in_ok-offset.ensures.1.is) (ap nat_abs (sym c.in_ok-exponent.ensures.1.is)) (to_z-of_z w32 _ fits' ∙ c.in_ok-residue.ensures.1.is) (taps.1.0 ∙ ap (numbers (fields_in line) 4) n),
+      alike_steps (to_z-of_z w32 _ fits ∙ c.in_ok-offset.ensures.1.is) (ap nat_abs (sym c.in_ok-exponent.ensures.1.is)) (to_z-of_z w32 _ fits' ∙ c.in_ok-residue.ensures.1.is) (taps.1 ∙ ap (numbers (fields_in line) 4) n),
     )

@@ -32,8 +32,5 @@ returns c =
     let n : c.loop-i.i ≡ c.args.n = omega arith in
     let z : c.args.n - c.loop-i.i ≡ 0 = omega arith in (
       c.loop-i.invariant.2 ∙ ap (λ m. first_wrong line.number (fields_in line) (c.args.from + c.loop-i.i) (replicate m tap_rule)) z ∙ first_wrong-none _ _ _,
-      (
-        ap (λ m. take m c.loop-i.found) (sym n) ∙ c.loop-i.invariant.1 ∙ ap (numbers (fields_in line) c.args.from) n,
-        c.loop-i.invariant.0,
-      ),
+      ap (λ m. take m c.loop-i.found) (sym n) ∙ c.loop-i.invariant.1 ∙ ap (numbers (fields_in line) c.args.from) n,
     )
