@@ -16,5 +16,5 @@ unique text ts us h k = same_ok ts us (sym (complete text ts h) ∙ complete tex
 refused : (text : List ℕ) (f : Fault) → reading text ≡ Err f → PointsAtFirst SomeRecipe text f
 refused text f h = points_from_refuses SomeRecipe text f (refuses_from_err 1 (lines_of text) (tail_of text) f (free_lines text) h)
 
-pub reading-laws : ReadingLaws
-reading-laws = record { accepted = accepted; complete = complete; unique = unique; refused = refused }
+pub reading_laws : ReadingLaws
+reading_laws = record { accepted = accepted; complete = complete; unique = unique; refused = refused }

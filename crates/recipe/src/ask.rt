@@ -35,6 +35,7 @@ fn set_line(line: &Line) -> Result<Request, Fault>
 }
 
 // What a line asks for that must be a SET line.
+#[tactic(auto, unfolding(crate::specs::Fields::is_word))]
 fn set_due(line: &Line) -> Result<Request, Fault>
     ensures { Judged (headed (codes "SET") set line.now.number (fields_in line.now)) (Sets (fields_in line.now)) result }
 {
@@ -66,6 +67,7 @@ fn set_and_recipe(text: &[u8]) -> Result<Request, Fault>
 }
 
 // Reads the text of a report: a SET line, and a recipe.
+#[tactic(auto, using(crate::proofs::RequestTheorem::request_laws))]
 pub fn request(text: &[u8]) -> Result<Request, Fault>
     ensures answer { answered result ≡ requested text.now }
     ensures law { RequestLaws }

@@ -19,6 +19,7 @@ impl Recipe {
     }
 
     // The stage that a line begins.
+    #[tactic(auto, unfolding(crate::specs::Fields::is_word))]
     pub(crate) fn stage_line(&self, line: &Line) -> Result<Begun, Fault>
         ensures { Opens (table_of self.now) line.now result }
     {

@@ -131,6 +131,7 @@ fn step_line(line: &Line, n: usize) -> Result<Step, Fault>
 }
 
 // The step of a line that must be a STEP line.
+#[tactic(auto, unfolding(crate::specs::Fields::is_word))]
 pub(crate) fn step_due(line: &Line) -> Result<Step, Fault>
     ensures { Judged (headed (codes "STEP") step line.now.number (fields_in line.now)) (λ s. plain_step s ≡ step_from (fields_in line.now)) result }
 {
@@ -168,6 +169,7 @@ fn row_line(line: &Line, i: usize) -> Result<Quotient, Fault>
 }
 
 // The row of a line that must be the ROW line of row `i`.
+#[tactic(auto, unfolding(crate::specs::Fields::is_word))]
 pub(crate) fn row_due(line: &Line, i: usize) -> Result<Quotient, Fault>
     requires { i ≤ 7 }
     ensures { Judged (headed (codes "ROW") (row i) line.now.number (fields_in line.now)) (λ q. plain_row q ≡ row_from (fields_in line.now)) result }

@@ -39,6 +39,7 @@ pub(crate) fn recipe_from(text: &[u8], first: usize) -> Result<Recipe, Fault>
 
 impl Recipe {
     // Reads a recipe. A refused text leaves the table empty.
+    #[tactic(auto, using(crate::proofs::Theorem::reading_laws))]
     pub fn read(&mut self, text: &[u8]) -> Result<(), Fault>
         ensures answer { Answers (reading text.now) result (table_of self.new) }
         ensures law { ReadingLaws }

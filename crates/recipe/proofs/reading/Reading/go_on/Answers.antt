@@ -34,9 +34,6 @@ returns-in_err-stage c =
     passed _ _ c.from_residual.result _ c.from_residual.ensures
     (ap (λ s. line_fault s line.number (fields_in line)) (start (at-returns-in_err-stage c).After-index-self-last) ∙ c.in_err-stage.ensures.stage _ _)
 
-pub invariant_of-self : goal.invariant_of-self
-invariant_of-self c = record { fits = omega (arith, c.args.self.now.fits) }
-
 pub invariant_of-self-2 : goal.invariant_of-self-2
 invariant_of-self-2 c =
     let so = (at-invariant_of-self-2 c).After-index-self-last in

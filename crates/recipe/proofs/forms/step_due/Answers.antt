@@ -1,7 +1,0 @@
-use Rattle.std.proofs.Common.{refl}
-use Rattle.recipe.specs.Fields.{is_word}
-use Rattle.recipe.proofs.forms.step_due.Goals as goal
-
-pub begun-requires : goal.begun-requires
-unfolding is_word
-begun-requires c = refl
