@@ -10,14 +10,13 @@ use crate::numbers::value_within;
 
 impl Line<'_> {
     // The fault of field `k`, from 0; faults name fields from 1.
-    pub(crate) fn fault(&self, cause: Cause, k: usize) -> Fault
-        requires { k < 16 }
+    pub(crate) fn fault(&self, cause: Cause, k: u8) -> Fault
         ensures { result ≡ record { cause = cause; line = self.now.number; field = k + 1 } }
     {
         Fault {
             cause,
             line: self.number,
-            field: k + 1,
+            field: usize::from(k) + 1,
         }
     }
 
@@ -55,19 +54,18 @@ impl Line<'_> {
     }
 
     // The number in field `k`, if it is one between the limits.
-    pub(crate) fn number(&self, k: usize, least: i32, greatest: i32) -> Result<i32, Fault>
-        requires { k < 16 }
+    // They are two numbers, since a range may also be spent, and each contract would have to rule that out.
+    pub(crate) fn number(&self, k: u8, least: i32, greatest: i32) -> Result<i32, Fault>
         ensures { Judged (wrong_from self.now k (between least greatest ∷ [])) (Held least greatest (number_at (fields_in self.now) k)) result }
     {
-        let Field::Number(digits) = self.field(k) else {
+        let Field::Number(digits) = self.field(usize::from(k)) else {
             return Err(self.fault(Cause::NotListed, k));
         };
         value_within(digits, least, greatest).ok_or(self.fault(Cause::OutsideLimit, k))
     }
 
     // The number in field `k`, if it is one from `least` to `greatest`.
-    pub(crate) fn natural(&self, k: usize, least: usize, greatest: usize) -> Result<usize, Fault>
-        requires field { k < 16 }
+    pub(crate) fn natural(&self, k: u8, least: usize, greatest: usize) -> Result<usize, Fault>
         requires low { least < 2 ^ 31 }
         requires high { greatest < 2 ^ 31 }
         ensures { Judged (wrong_from self.now k (between (pos least) (pos greatest) ∷ [])) (Counted least greatest (number_at (fields_in self.now) k)) result }
@@ -79,14 +77,13 @@ impl Line<'_> {
     // What the word in field `k` stands for: it must be one of two.
     pub(crate) fn one_of<T: Copy>(
         &self,
-        k: usize,
+        k: u8,
         first: (&[u8], T),
         second: (&[u8], T),
     ) -> Result<T, Fault>
-        requires { k < 16 }
         ensures { Judged (wrong_from self.now k (listed (first.entry.0.now ∷ second.entry.0.now ∷ []) ∷ [])) (λ x. x ≡ (if same (at (fields_in self.now) k) first.entry.0.now then first.entry.1 else second.entry.1)) result }
     {
-        let Field::Word(word) = self.field(k) else {
+        let Field::Word(word) = self.field(usize::from(k)) else {
             return Err(self.fault(Cause::NotListed, k));
         };
         if word == first.0 {

@@ -21,7 +21,7 @@ fn taps(line: &Line, from: usize, n: usize) -> Result<[i16; 8], Fault>
     let mut found: [i16; 8] = [0; 8];
     // By index: of what is written through an adapter of `iter_mut` nothing is known afterwards.
     for i in 0..n {
-        let tap = line.number(from + i, -32768, 32767)?;
+        let tap = line.number((from + i) as u8, -32768, 32767)?;
         found[i] = tap as i16;
     }
     Ok(found)

@@ -10,7 +10,7 @@ pub returns-in_default : goal.returns-in_default
 returns-in_default c =
     let line = c.args.self.now in
     first_wrong-here line.number (fields_of line.bytes.now) c.args.k (between c.args.least c.args.greatest) [] _
-    (wrong-no-number _ _ _ (shown_no_number c.field.result _ c.field.ensures c.in_default.not-Number))
+    (wrong-no-number _ _ _ (shown_no_number c.field.result _ (rw c.from.ensures at c.field.ensures) c.in_default.not-Number))
     ∙ ap Some (sym c.fault.ensures)
 
 pub returns : goal.returns
@@ -19,4 +19,4 @@ returns c =
     let low : SFits w32 c.args.least = c.ranges.least in
     let high : SFits w32 c.args.greatest = c.ranges.greatest in
     let r = simp to_z-of_z at c.value_within.ensures in
-    judged_within line.number (fields_of line.bytes.now) c.args.k c.args.least c.args.greatest c.in-Number.digits.now c.value_within.result c.ok_or.result c.in-Number.ensures r (c.ok_or.ensures.value ∙ ap (ok_or c.value_within.result) c.fault-2.ensures)
+    judged_within line.number (fields_of line.bytes.now) c.args.k c.args.least c.args.greatest c.in-Number.digits.now c.value_within.result c.ok_or.result (rw c.from.ensures at c.in-Number.ensures) r (c.ok_or.ensures.value ∙ ap (ok_or c.value_within.result) c.fault-2.ensures)
