@@ -1,11 +1,12 @@
 -- What is wrong with a field, and the first field that is.
-use Rattle.std.proofs.Common.{◌≡◌, ℕ, ◌+◌, Bool, true, false, cond, ◌&&◌, List, [], ◌∷◌, drop, ℤ, Some, None, Ok, Err, Decides, Option, Result, nat_eq, sym, refl, ap, ◌∙◌, inl, inr, arith, rules}
+use Rattle.std.proofs.Common.{◌≡◌, ℕ, zero, suc, ◌+◌, Bool, true, false, cond, ◌&&◌, List, [], ◌∷◌, drop, ℤ, Some, None, Ok, Err, Decides, Option, Result, nat_eq, sym, refl, ap, ◌∙◌, inl, inr, arith, rules}
 use Rattle.std.specs.Int.Signed.{le_z}
 use Rattle.std.specs.Option.{ok_or}
 use Rattle.std.specs.Result.{IsErr, IsErrAnd}
 use Rattle.std.specs.Cmp.Lexicographic.{pointwise}
 use Rattle.std.proofs.lemmas.Slice.Eq.{slice_eq-Decides, compares_Decides}
 use Rattle.std.proofs.lemmas.Int.{ints}
+use Rattle.std.proofs.lemmas.Option.{none-some}
 use Rattle.std.proofs.lemmas.Bool.{cond-true, cond-false, cases_Bool, both_ways, and_from, and_parts, and_left, and_right}
 use Rattle.std.proofs.lemmas.Bool.Decides.{same_from_decides, Decides-eqb}
 use Rattle.recipe.specs.declared.fault.Cause.{Cause}
@@ -13,10 +14,9 @@ use Rattle.recipe.specs.declared.fault.Cause.TheVariants.{NotListed, OutsideLimi
 use Rattle.recipe.specs.declared.fault.Fault.{Fault}
 use Rattle.recipe.specs.declared.field.Field.{Field}
 use Rattle.recipe.specs.declared.field.Field.TheVariants.{Empty, Word, Number, Other}
-use Rattle.recipe.specs.declared.line.Line.{Line}
 use Rattle.recipe.specs.Fields.{is_word, is_number, value_of, Shows}
-use Rattle.recipe.specs.Promises.{Held, Judged, fields_in}
-use Rattle.recipe.specs.Rules.{Form, rules_of, Rule, between, listed, same, member, wrong, field, first_wrong}
+use Rattle.recipe.specs.Promises.{Held, Judged}
+use Rattle.recipe.specs.Rules.{Rule, between, listed, same, member, wrong, field, first_wrong}
 use Rattle.recipe.proofs.Letters.{word_no_number}
 
 -- the fault of field k
@@ -41,20 +41,26 @@ rule_right line fs k r rs = by (wrong r (field fs k)) refl
   where
     by : (o : Option Cause) → wrong r (field fs k) ≡ o → first_wrong line fs k (r ∷ []) ≡ None → first_wrong line fs k (r ∷ rs) ≡ first_wrong line fs (k + 1) rs
     by None e h = first_wrong-later line fs k r rs e
-    by (Some c) e h = absurd (some_none (sym (first_wrong-here line fs k r [] c e) ∙ h))
-      where
-        some_none : {f : Fault} → Some f ≡ None → ⊥
-        some_none p = search rules
+    by (Some c) e h = absurd (none-some _ (sym h ∙ first_wrong-here line fs k r [] c e))
 
 pub rule_wrong : (line : ℕ) (fs : List (List ℕ)) (k : ℕ) (r : Rule) (rs : List Rule) (f : Fault) → first_wrong line fs k (r ∷ []) ≡ Some f → first_wrong line fs k (r ∷ rs) ≡ Some f
 rule_wrong line fs k r rs f = by (wrong r (field fs k)) refl
   where
     by : (o : Option Cause) → wrong r (field fs k) ≡ o → first_wrong line fs k (r ∷ []) ≡ Some f → first_wrong line fs k (r ∷ rs) ≡ Some f
-    by None e h = absurd (none_some (sym (first_wrong-later line fs k r [] e ∙ first_wrong-none line fs (k + 1)) ∙ h))
-      where
-        none_some : None ≡ Some f → ⊥
-        none_some p = search rules
+    by None e h = absurd (none-some _ (sym (first_wrong-later line fs k r [] e ∙ first_wrong-none line fs (k + 1)) ∙ h))
     by (Some c) e h = first_wrong-here line fs k r rs c e ∙ sym (first_wrong-here line fs k r [] c e) ∙ h
+
+-- the first n rules are kept, each by itself
+abbrev pub FirstKept : ℕ → List (List ℕ) → ℕ → ℕ → List Rule → Type 0
+FirstKept line fs k zero rs = Unit {0}
+FirstKept line fs k (suc n) [] = Unit {0}
+FirstKept line fs k (suc n) (r ∷ rs) = (first_wrong line fs k (r ∷ []) ≡ None) × FirstKept line fs (k + 1) n rs
+
+pub past : (line : ℕ) (fs : List (List ℕ)) (k n : ℕ) (rs : List Rule) → FirstKept line fs k n rs → first_wrong line fs k rs ≡ first_wrong line fs (k + n) (drop n rs)
+past line fs k zero rs h = ap (λ j. first_wrong line fs j rs) (let e : k ≡ k + 0 = omega arith in e)
+past line fs k (suc n) [] h = first_wrong-none line fs k ∙ sym (first_wrong-none line fs (k + suc n))
+past line fs k (suc n) (r ∷ rs) h =
+    rule_right line fs k r rs h.0 ∙ past line fs (k + 1) n rs h.1 ∙ ap (λ j. first_wrong line fs j (drop n rs)) (let e : k + 1 + n ≡ k + suc n = omega arith in e)
 
 -- what a field that is no word, or no number, shows
 pub shown_no_word : (r : Field) (f : List ℕ) → Shows r f → ((s : _) → r ≡ Word s → ⊥) → is_word f ≡ false
@@ -144,7 +150,3 @@ listed_right line fs k ws is m = first_wrong-later line fs k (listed ws) [] (wro
 pub passed : {X : Type 0} (o : Option Fault) (P : X → Type 0) (r : Result X Fault) (f : Fault) → IsErr r × IsErrAnd r (λ x. x ≡ f) → o ≡ Some f → Judged o P r
 passed o P (Ok x) f p e = absurd p.1
 passed o P (Err x) f p e = e ∙ ap Some (sym p.1)
-
--- the first fault of a line of form g, past n of its rules
-abbrev pub past : Form → ℕ → Line → Option Fault
-past g n l = first_wrong l.number (fields_in l) (1 + n) (drop n (rules_of g (fields_in l)))

@@ -3,14 +3,9 @@ use Rattle.stages.specs.Channels.{half_of}
 use Rattle.std.proofs.lemmas.Int.{to_z-of_z}
 use Rattle.recipe.specs.Grammar.{numbers}
 use Rattle.recipe.specs.Promises.{fields_in}
-use Rattle.recipe.specs.Rules.{row}
 use Rattle.recipe.proofs.Alike.{alike_rows}
-use Rattle.recipe.proofs.Faults.{past, rule_right, rule_wrong, passed}
+use Rattle.recipe.proofs.Faults.{past, rule_wrong, passed}
 use Rattle.recipe.proofs.forms.row_line.Goals as goal
-use Rattle.recipe.proofs.forms.row_line.Goals.{In_ok-exponent, at-returns-in_err-taps, at-returns}
-
-past-exponent : (c : In_ok-exponent) → past (row c.args.i) 0 c.args.line.now ≡ past (row c.args.i) 1 c.args.line.now
-past-exponent c = rule_right _ _ 1 _ _ c.in_ok-exponent.ensures.0
 
 pub returns-in_err-exponent : goal.returns-in_err-exponent
 returns-in_err-exponent c =
@@ -20,7 +15,7 @@ returns-in_err-exponent c =
 pub returns-in_err-taps : goal.returns-in_err-taps
 returns-in_err-taps c =
     passed _ _ c.from_residual-in_err-taps.result _ c.from_residual-in_err-taps.ensures
-    (past-exponent (at-returns-in_err-taps c).In_ok-exponent ∙ c.in_err-taps.ensures)
+    (past _ _ 1 1 _ (c.in_ok-exponent.ensures.0, tt) ∙ c.in_err-taps.ensures)
 
 pub returns : goal.returns
 returns c =
@@ -29,6 +24,6 @@ returns c =
     let taps = c.in_ok-taps.ensures in
     let fits : SFits w32 c.half-residue.result = search rules in
     let n : c.args.i ≡ length (fields_in line) - 2 = omega arith in (
-      past-exponent (at-returns c).In_ok-exponent ∙ taps.0,
+      past _ _ 1 1 _ (c.in_ok-exponent.ensures.0, tt) ∙ taps.0,
       alike_rows (ap nat_abs (sym e)) (to_z-of_z w32 _ fits ∙ c.half-residue.ensures ∙ ap (λ z. pos (half_of (nat_abs z))) (sym e)) (taps.1 ∙ ap (numbers (fields_in line) 2) n),
     )
