@@ -3,13 +3,14 @@ use Rattle.std.proofs.Common.{◌≡◌, ℕ, zero, suc, ◌+◌, ◌-◌, ◌<�
 use Rattle.std.specs.Int.{int_min}
 use Rattle.std.proofs.lemmas.List.{get_or-take, length-take, length-replicate}
 use Rattle.std.proofs.lemmas.Bool.{and_parts, leb-true, cond-true}
+use Rattle.std.proofs.lemmas.Option.{none-some}
 use Rattle.recipe.specs.declared.fault.Cause.{Cause}
 use Rattle.recipe.specs.declared.fault.Cause.TheVariants.{FieldCount}
 use Rattle.recipe.specs.declared.fault.Fault.{Fault}
 use Rattle.recipe.specs.Fields.{value_of}
 use Rattle.recipe.specs.Grammar.{Sofar, form_due, has_space, form_fault, line_fault}
 use Rattle.recipe.specs.Rules.{Form, set, lift, step, dep, row, rct, Rule, between, wrong, field, number, first_wrong, has_fields, rules_of, tap_rule}
-use Rattle.recipe.proofs.Rulings.{onward, some_none}
+use Rattle.recipe.proofs.Rulings.{onward}
 use Rattle.recipe.proofs.LineForms.{Kept}
 use Rattle.recipe.proofs.Places.{kept_from_none}
 use Rattle.recipe.proofs.Pointing.{fault_named}
@@ -23,7 +24,7 @@ record Breaks (fs : List (List ℕ)) (k : ℕ) (rs : List Rule) (f : Fault) : Ty
 
 breaks_from_some : (line : ℕ) (fs : List (List ℕ)) (k : ℕ) (rs : List Rule) (f : Fault) → first_wrong line fs k rs ≡ Some f → Breaks fs k rs f
 unfolding first_wrong
-breaks_from_some line fs k [] f h = absurd (some_none f (sym h))
+breaks_from_some line fs k [] f h = absurd (none-some f h)
 breaks_from_some line fs k (r ∷ rs) f h = by (wrong r (field fs k)) refl (λ e. breaks_from_some line fs (k + 1) rs f e) h
   where
     by : (o : Option Cause) → wrong r (field fs k) ≡ o → (first_wrong line fs (k + 1) rs ≡ Some f → Breaks fs (k + 1) rs f) → onward line k (first_wrong line fs (k + 1) rs) o ≡ Some f → Breaks fs k (r ∷ rs) f
@@ -45,7 +46,7 @@ holds-from-none line fs k (r ∷ rs) j h l = by (wrong r (field fs k)) refl (λ 
     by : (o : Option Cause) → wrong r (field fs k) ≡ o → ((i : ℕ) → first_wrong line fs (k + 1) rs ≡ None → i < length rs → wrong (get_or rs i tap_rule) (field fs (k + 1 + i)) ≡ None) → onward line k (first_wrong line fs (k + 1) rs) o ≡ None → (i : ℕ) → i < suc (length rs) → wrong (get_or (r ∷ rs) i tap_rule) (field fs (k + i)) ≡ None
     by None w more e zero m = ap (λ n. wrong r (field fs n)) (let e : k + 0 ≡ k = omega arith in e) ∙ w
     by None w more e (suc i) m = ap (λ n. wrong (get_or rs i tap_rule) (field fs n)) (let e : k + suc i ≡ k + 1 + i = omega arith in e) ∙ more i e (omega arith)
-    by (Some c) w more e i m = absurd (some_none _ e)
+    by (Some c) w more e i m = absurd (none-some _ (sym e))
 
 replicate-all : (n i : ℕ) → get_or (replicate n tap_rule) i tap_rule ≡ tap_rule
 replicate-all zero i = refl
@@ -116,10 +117,10 @@ module _ (s : Sofar) (line : ℕ) (fs gs : List (List ℕ)) (f : Fault) where
       let alike : (i : ℕ) → i ≤ n + 1 → field fs i ≡ field gs i = λ i l. fields_alike fs gs (n + 2) i again (omega arith) in
       let good = holds-from-none line gs 1 (rules_of g gs) n kept.rules (rule_below fs gs g n many kept.fields again b.below) in
       let bad = sym b.broken ∙ (λ i. wrong (rule_same fs gs g n alike i) (alike (1 + n) (omega arith) i)) in
-      some_none f.cause (bad ∙ good)
+      none-some f.cause (sym (bad ∙ good))
 
   pub form_decides : (o : Option Form) → (f.cause ≡ FieldCount → ⊥) → take f.field gs ≡ take f.field fs → form_fault s line fs o ≡ Some f → form_fault s line gs o ≡ None → ⊥
-  form_decides None but same h k = some_none _ k
+  form_decides None but same h k = none-some _ (sym k)
   form_decides (Some g) but same h k =
       let kept = kept_from_none s line gs g k in
       let many = some_cond (has_fields g (length fs)) _ (record { cause = FieldCount; line = line; field = 1 }) f (sym (cond-true (has_space s) _ _ kept.0) ∙ h) in

@@ -1,10 +1,8 @@
 -- The fields of each form of a line, from the text and back.
-use Rattle.std.proofs.Common.{◌≡◌, ℕ, zero, suc, ◌+◌, ◌-◌, ◌≤◌, min, true, leb, ◌⊎◌, List, [], ◌∷◌, map, length, replicate, ℤ, pos, negsuc, ◌-ℤ◌, nat_abs, None, codes, decimal, sym, refl, ap, ◌∙◌, subst, inl, inr, arith}
-use Rattle.std.specs.Int.{int_min}
+use Rattle.std.proofs.Common.{◌≡◌, ℕ, zero, suc, ◌+◌, ◌-◌, ◌≤◌, min, true, leb, ◌⊎◌, List, [], ◌∷◌, map, length, replicate, pos, negsuc, nat_abs, None, codes, decimal, sym, refl, ap, ◌∙◌, subst, inl, inr, arith}
 use Rattle.std.specs.Fmt.{signed_decimal}
 use Rattle.std.specs.List.{AllByRecursion}
 use Rattle.std.proofs.lemmas.List.{length-map, length-replicate}
-use Rattle.std.proofs.lemmas.Int.{ints, clamps}
 use Rattle.std.proofs.lemmas.Bool.{eqb-true, eq-eqb, leb-true, le-leb, and_parts, and_from}
 use Rattle.stages.specs.Channels.{half_of}
 use Rattle.stages.specs.declared.stage.Axis.{Axis}
@@ -18,6 +16,7 @@ use Rattle.recipe.specs.Grammar.{natural, axis_of, extension_of, parity_from, nu
 use Rattle.stages.specs.Plain.{PlainStep, PlainRow, PlainLift}
 use Rattle.recipe.specs.Rules.{Form, lift, step, dep, row, rct, between, listed, wrong, number, first_wrong, has_fields, rules_of, tap_rule}
 use Rattle.recipe.specs.Written.{axis_word, extension_word, parity_number, lift_line, step_line, dep_line, row_line, rct_line, LawfulTap, LawfulStep, LawfulLift, LawfulRow}
+use Rattle.recipe.proofs.Limits.{rest_limit, dep_limit}
 use Rattle.recipe.proofs.Figures.{within-from-fits, fits-from-within, within-value, natural-from-fits, fits-from-natural, decimal_natural, listed_from_fits, offset_small, residue_small}
 use Rattle.recipe.proofs.Rulings.{Fits, from_one, from_next, fits-from-none, none_from_fits, numbers-from, taps_from_fits, fits-from-taps, taps_values}
 
@@ -45,9 +44,6 @@ parity-number zero h = refl
 parity-number (suc zero) h = refl
 parity-number (suc (suc n)) h = absurd (omega arith)
 
-room_left : (z : ℤ) (n : ℕ) → z ≡ pos n → n ≤ 64 → pos 64 -ℤ z ≡ pos (64 - n)
-room_left z n e h = omega (arith, ints)
-
 pub record LiftRead (fs : List (List ℕ)) : Type 0 where
   pub lawful : LawfulLift (lift_from fs)
   pub some : 1 ≤ natural fs 7
@@ -66,7 +62,7 @@ lift_read (a ∷ f ∷ c ∷ v ∷ e ∷ m ∷ n ∷ x ∷ xs) h = absurd h.1.1.
 lift_read (a ∷ f ∷ c ∷ v ∷ e ∷ m ∷ n ∷ []) h =
     let pa = axis_text a (listed_from_fits (codes "T") (codes "C") a h.0) in
     let pf = natural-from-fits 0 63 f (omega arith) h.1.0 in
-    let left = room_left (value_of f) (nat_abs (value_of f)) pf.value (omega arith) in
+    let left = rest_limit (value_of f) (nat_abs (value_of f)) pf.value (omega arith) in
     let pc = natural-from-fits 1 (64 - nat_abs (value_of f)) c (omega arith) (subst (λ z. wrong (between (pos 1) z) c ≡ None) left h.1.1.0) in
     let pv = natural-from-fits 0 15 v (omega arith) h.1.1.1.0 in
     let pe = extension_text e (listed_from_fits (codes "WS") (codes "CON") e h.1.1.1.1.0) in
@@ -119,7 +115,7 @@ pub kept_from_lift : (line n : ℕ) (l : PlainLift) → LawfulLift l → 1 ≤ n
 kept_from_lift line n l h some few =
     let fs = lift_line l n in
     let inside = h.inside in
-    let left = room_left (number fs 2) l.first (decimal_natural l.first (omega (arith, h.inside))) (omega (arith, h.inside)) in
+    let left = rest_limit (number fs 2) l.first (decimal_natural l.first (omega (arith, h.inside))) (omega (arith, h.inside)) in
     let pc = fits-from-natural 1 (64 - l.first) l.count (omega arith) h.some (omega (arith, h.inside, h.some)) in
     kept_from_fits lift line (codes "LIFT") (axis_word l.axis ∷ decimal l.first ∷ decimal l.count ∷ decimal l.level ∷ extension_word l.extension ∷ decimal (parity_number l.parity) ∷ decimal n ∷ []) refl (
       axis_listed l.axis,
@@ -277,19 +273,13 @@ pub record DepRead (fs : List (List ℕ)) : Type 0 where
   pub few : natural fs 2 ≤ 8
   pub text : fs ≡ dep_line (natural fs 1) (natural fs 2)
 
-channels_left : (z : ℤ) (n : ℕ) → z ≡ pos n → n ≤ 64 → int_min (pos 8) (pos 64 -ℤ z) ≡ pos (min 8 (64 - n))
-channels_left z n e h = ap (int_min (pos 8)) (room_left z n e h) ∙ least (64 - n)
-  where
-    least : (k : ℕ) → int_min (pos 8) (pos k) ≡ pos (min 8 k)
-    least k = omega (arith, ints, clamps)
-
 dep_read : (gs : List (List ℕ)) → Fits (rules_of dep (codes "DEP" ∷ gs)) gs → DepRead (codes "DEP" ∷ gs)
 dep_read [] h = absurd h
 dep_read (f ∷ []) h = absurd h.1
 dep_read (f ∷ n ∷ x ∷ xs) h = absurd h.1.1
 dep_read (f ∷ n ∷ []) h =
     let pf = natural-from-fits 0 63 f (omega arith) h.0 in
-    let left = channels_left (value_of f) (nat_abs (value_of f)) pf.value (omega (arith, pf.high)) in
+    let left = dep_limit (value_of f) (nat_abs (value_of f)) _ pf.value (omega (arith, pf.high)) refl in
     let pn = natural-from-fits 2 (min 8 (64 - nat_abs (value_of f))) n (omega arith) (subst (λ z. wrong (between (pos 2) z) n ≡ None) left h.1.0) in
     record { inside = omega (arith, pn.high, pf.high); some = pn.low; few = omega (arith, pn.high); text = λ i. codes "DEP" ∷ pf.text i ∷ pn.text i ∷ [] }
 
@@ -300,7 +290,7 @@ dep_from_kept line gs h =
 
 pub kept_from_dep : (line first n : ℕ) → first + n ≤ 64 → 2 ≤ n → n ≤ 8 → Kept dep line (dep_line first n)
 kept_from_dep line first n inside some few =
-    let left = channels_left (value_of (decimal first)) first (decimal_natural first (omega arith)) (omega arith) in
+    let left = dep_limit (value_of (decimal first)) first _ (decimal_natural first (omega arith)) (omega arith) refl in
     let pn = fits-from-natural 2 (min 8 (64 - first)) n (omega arith) some (omega arith) in
     kept_from_fits dep line (codes "DEP") (decimal first ∷ decimal n ∷ []) refl (
       fits-from-natural 0 63 first (omega arith) (omega arith) (omega arith),

@@ -1,6 +1,7 @@
 -- The form of a line that is due, by the word it begins with, and what a line of that form adds.
 use Rattle.std.proofs.Common.{◌≡◌, ℕ, ◌+◌, ◌<◌, Bool, true, false, cond, ◌&&◌, eqb, leb, ltb, List, [], ◌∷◌, ◌++◌, length, Some, None, Ok, Err, codes, Option, Result, sym, refl, ap, ◌∙◌, arith}
 use Rattle.std.proofs.lemmas.Bool.{cond-true, cond-false, ne_eqb, ltb-true}
+use Rattle.std.proofs.lemmas.Option.{none-some}
 use Rattle.recipe.specs.declared.begun.Begun.{Begun}
 use Rattle.recipe.specs.declared.fault.Cause.TheVariants.{FieldCount, WordDue, StageCount}
 use Rattle.recipe.specs.declared.fault.Fault.{Fault}
@@ -9,7 +10,6 @@ use Rattle.recipe.specs.Grammar.{Sofar, at_hand, form_begun, form_inside, form_d
 use Rattle.stages.specs.Plain.{Plain, rct as an-rct}
 use Rattle.recipe.specs.Promises.{Judged, Begins, Opened, headed, fields_in}
 use Rattle.recipe.specs.Rules.{Form, lift, dep, rct, same, field, has_fields, first_wrong, rules_of}
-use Rattle.recipe.proofs.Rulings.{some_none}
 
 -- just so many fields behind the word
 pub just : (n m : ℕ) → (leb (n + 1) m && leb m (n + 1)) ≡ eqb m (n + 1)
@@ -21,7 +21,7 @@ module _ (word sized : Bool) (line : ℕ) (rest first second : Option Fault) (f�
   tested_fault f = by word sized
     where
       by : (word sized : Bool) → cond word (cond sized None second) first ≡ Some f → cond word (cond sized rest second) first ≡ Some f
-      by true true e = absurd (some_none _ (sym e))
+      by true true e = absurd (none-some _ e)
       by true false e = e
       by false t e = e
 
@@ -30,8 +30,8 @@ module _ (word sized : Bool) (line : ℕ) (rest first second : Option Fault) (f�
     where
       by : (word sized : Bool) → cond word (cond sized None second) first ≡ None → (word ≡ true) × (cond word (cond sized rest second) first ≡ rest)
       by true true e = (refl, refl)
-      by true false e = absurd (some_none _ (sym is₂ ∙ e))
-      by false t e = absurd (some_none _ (sym is₁ ∙ e))
+      by true false e = absurd (none-some _ (sym (sym is₂ ∙ e)))
+      by false t e = absurd (none-some _ (sym (sym is₁ ∙ e)))
 
 -- a line by which a stage begins
 module _ (ts : List Plain) (l : Line) (g : Form) (is : form_begun (field (fields_in l) 0) ≡ Some g) (sized : Bool) (fits : sized ≡ has_fields g (length (fields_in l))) where
@@ -80,7 +80,7 @@ module _ (s : Sofar) (due : 0 < s.left) (line : ℕ) (fs : List (List ℕ)) wher
     where
       by : (t : Bool) → cond t (cond (has_fields g (length fs)) (first_wrong line fs 1 (rules_of g fs)) (fault_at FieldCount line)) (fault_at WordDue line) ≡ None → t ≡ true
       by true e = refl
-      by false e = absurd (some_none _ e)
+      by false e = absurd (none-some _ (sym e))
 
   pub inside_taken : (p : Plain) (w : List ℕ) (g : Form) → at_hand s.stages ≡ Some p → ((v : List ℕ) → form_inside (Some p) v ≡ cond (same v w) (Some g) None) → headed w g line fs ≡ None → taken s fs ≡ form_taken s fs (Some g)
   unfolding taken

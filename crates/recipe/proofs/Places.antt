@@ -5,12 +5,12 @@ use Rattle.std.specs.List.{flat_map, AllByRecursion}
 use Rattle.std.proofs.ByRecursion.{All-push}
 use Rattle.std.proofs.lemmas.List.{flat_map_more, length_push, map_push}
 use Rattle.std.proofs.lemmas.Bool.{ltb-true, cond-true, cond-false}
+use Rattle.std.proofs.lemmas.Option.{none-some}
 use Rattle.recipe.specs.Grammar.{Sofar, natural, lift_from, step_from, row_from, form_inside, form_due, has_space, form_fault, line_fault, form_taken, taken}
 use Rattle.stages.specs.Plain.{Plain, PlainStep, PlainRow, PlainLift, lift as a-lift, dep as a-dep, rct as an-rct}
 use Rattle.recipe.specs.Rules.{Form, lift, step, dep, row, rct, same, has_fields}
 use Rattle.recipe.specs.Written.{lift_line, step_line, dep_line, row_line, stage_lines, LawfulStep, LawfulLift, LawfulRow, LawfulRows, Lawful, LawfulStages}
 use Rattle.recipe.proofs.Figures.{none_cond, same_true}
-use Rattle.recipe.proofs.Rulings.{some_none}
 use Rattle.recipe.proofs.LineForms.{Kept, lift_from_kept, step-from-kept, row_from_kept, dep_from_kept, rct_from_kept}
 use Rattle.recipe.proofs.Tables.{at_hand-last, with_step-lift, with_row_dep}
 
@@ -161,7 +161,7 @@ module _ (ts : List Plain) (line : ℕ) (gs : List (List ℕ)) (sound : LawfulSt
       by true b c e f g h = known (codes "LIFT") e lift_begins
       by false true c e f g h = known (codes "DEP") f dep_begins
       by false false true e f g h = known (codes "RCT") g rct_begins
-      by false false false e f g h = absurd (some_none _ h)
+      by false false false e f g h = absurd (none-some _ (sym h))
 
 -- the lines of a stage with one more
 lines_more : (js : List (List (List ℕ))) (a b x : List (List ℕ)) (xs ys : List (List (List ℕ))) → a ≡ b → ys ≡ xs ++ x ∷ [] → js ++ (a ∷ ys) ≡ (js ++ (b ∷ xs)) ++ x ∷ []
@@ -242,7 +242,7 @@ step-goes-on ts l ss n line w gs sound none =
     by true e h =
         subst (λ u. Kept step line (u ∷ gs) → Adds (in_lift ts l ss n) (u ∷ gs)) (sym (same_true w (codes "STEP") e))
         (step-adds ts l ss n line gs sound) (kept_from_none s line (w ∷ gs) step h).1
-    by false e h = absurd (some_none _ h)
+    by false e h = absurd (none-some _ (sym h))
 
 row_goes_on : (ts : List Plain) (first : ℕ) (rs : List PlainRow) (n line : ℕ) (w : List ℕ) (gs : List (List ℕ)) → Sound (in_dep ts first rs n) → line_fault (sofar (in_dep ts first rs n)) line (w ∷ gs) ≡ None → Adds (in_dep ts first rs n) (w ∷ gs)
 unfolding line_fault
@@ -256,7 +256,7 @@ row_goes_on ts first rs n line w gs sound none =
     by true e h =
         subst (λ u. Kept (row (length rs + 1)) line (u ∷ gs) → Adds (in_dep ts first rs n) (u ∷ gs)) (sym (same_true w (codes "ROW") e))
         (row_adds ts first rs n line gs sound) (kept_from_none s line (w ∷ gs) (row (length rs + 1)) h).1
-    by false e h = absurd (some_none _ h)
+    by false e h = absurd (none-some _ (sym h))
 
 -- a line without fault goes on with a recipe
 pub adds_from_none : (p : Place) (line : ℕ) (f : List ℕ) (fs : List (List ℕ)) → Sound p → line_fault (sofar p) line (f ∷ fs) ≡ None → Adds p (f ∷ fs)

@@ -5,6 +5,7 @@ use Rattle.std.proofs.ByRecursion.{All-take}
 use Rattle.std.proofs.lemmas.List.{append-nil, map-append, length-replicate, length-append, length-take-le, take-append-le, take-take, take-append-drop, drop_more, get_or_append_left, get_or-take}
 use Rattle.std.proofs.lemmas.Int.{ints}
 use Rattle.std.proofs.lemmas.Bool.{cond_both}
+use Rattle.std.proofs.lemmas.Option.{none-some}
 use Rattle.recipe.specs.declared.fault.Cause.{Cause}
 use Rattle.recipe.specs.declared.fault.Cause.TheVariants.{EndsInside}
 use Rattle.recipe.specs.declared.fault.Fault.{Fault}
@@ -14,7 +15,7 @@ use Rattle.stages.specs.Plain.{Plain, PlainStep, PlainRow, PlainLift}
 use Rattle.recipe.specs.Rules.{Form, Rule, wrong, field, first_wrong, has_fields, rules_of}
 use Rattle.recipe.specs.Written.{commas, ended, stage_lines, LawfulTap, LawfulStep, LawfulRow, LawfulStages, SomeRecipe, Begun}
 use Rattle.recipe.proofs.Parting.{Free, fields_some, lines_first}
-use Rattle.recipe.proofs.Rulings.{onward, some_none}
+use Rattle.recipe.proofs.Rulings.{onward}
 use Rattle.recipe.proofs.Places.{Place, between, in_lift, in_dep, sofar, lines_read, Sound, stepped, rowed, step-sound, row_sound, step_lines, row_lines}
 use Rattle.recipe.proofs.Accepting.{answer, ok_err, adds_some, commas-fields}
 use Rattle.recipe.proofs.Completing.{ok_from_recipe}
@@ -221,4 +222,4 @@ none_with from ls f s free long b =
     let same = take-append-le k first (lines_of b.more) (omega arith) ∙ take-take k (k + 1) ls (omega arith) in
     let here = get_or_append_left first (lines_of b.more) [] k (omega arith) ∙ get_or-take (k + 1) ls k [] (omega arith) in
     let none = goes_on from ls (first ++ lines_of b.more) f s _ b.whole.0 same (omega arith) read in
-    some_none f (sym (s.fault long) ∙ ap (λ x. line_fault (sofar s.at) (from + k) (fields_of x)) (sym here) ∙ none)
+    none-some f (sym (sym (s.fault long) ∙ ap (λ x. line_fault (sofar s.at) (from + k) (fields_of x)) (sym here) ∙ none))

@@ -5,6 +5,7 @@ use Rattle.std.proofs.ByRecursion.{All-take}
 use Rattle.std.proofs.lemmas.List.{append_cancel_left}
 use Rattle.std.proofs.lemmas.Int.{ints}
 use Rattle.std.proofs.lemmas.Bool.{leb-true, leb-false}
+use Rattle.std.proofs.lemmas.Option.{none-some}
 use Rattle.recipe.specs.declared.fault.Cause.TheVariants.{EndsInside, TooLong}
 use Rattle.recipe.specs.declared.fault.Fault.{Fault}
 use Rattle.recipe.specs.Fields.{fields_of, lines_of, tail_of}
@@ -15,7 +16,6 @@ use Rattle.recipe.specs.RequestLaws.{set_line, IsRequestText, SomeRequest, Refus
 use Rattle.recipe.specs.Written.{commas, ended, text_of, IsRecipe, SomeRecipe, Begun}
 use Rattle.recipe.proofs.Parting.{Free, free_lines, lines_first, fields_some}
 use Rattle.recipe.proofs.Accepting.{nothing_sound}
-use Rattle.recipe.proofs.Rulings.{some_none}
 use Rattle.recipe.proofs.Refusing.{Refuses, refuses_from_err, points_from_refuses}
 use Rattle.recipe.proofs.SetLines.{set_from_none, set_named, set_decides}
 use Rattle.recipe.proofs.Requesting.{onwards, answered, request_from_parts, parts_from_request, recipe_behind, accepted, complete, unique}
@@ -70,7 +70,7 @@ set_refuses l ls f free h = record {
   line-is = (set_named (fields_of l) f h).0;
   within = omega arith;
   before = nothing_begun;
-  here = λ lt b. some_none f (sym h ∙ (request_begun l [] (free.0, tt) b).0);
+  here = λ lt b. none-some f (sym (sym h ∙ (request_begun l [] (free.0, tt) b).0));
   field = λ lt but other long lines fields request.
       let p = parts_from_request other request.0 request.1 in
       set_decides (fields_of l) (fields_of (get_or (lines_of other) 0 [])) f but fields h (ap (λ (xs : List (List ℕ)). set_fault (fields_of (get_or xs 0 []))) p.lines ∙ p.none);

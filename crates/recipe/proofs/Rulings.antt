@@ -2,6 +2,7 @@
 use Rattle.std.proofs.Common.{◌≡◌, ℕ, zero, suc, ◌+◌, List, [], ◌∷◌, map, length, replicate, ℤ, pos, negsuc, Some, None, Option, sym, refl, ap, ◌∙◌, arith}
 use Rattle.std.specs.Fmt.{signed_decimal}
 use Rattle.std.specs.List.{AllByRecursion}
+use Rattle.std.proofs.lemmas.Option.{none-some}
 use Rattle.recipe.specs.declared.fault.Cause.{Cause}
 use Rattle.recipe.specs.declared.fault.Fault.{Fault}
 use Rattle.recipe.specs.Fields.{value_of}
@@ -34,9 +35,6 @@ from_next fs k g gs h i = ap (λ j. field fs j) (let e : k + 1 + i ≡ k + suc i
 abbrev pub onward : ℕ → ℕ → Option Fault → Option Cause → Option Fault
 onward line k next o = elim o [ None ↦ next | Some c ↦ Some (record { cause = c; line = line; field = k + 1 }) ]
 
-pub some_none : {A : Type 0} (a : A) → Some a ≡ None → ⊥
-some_none a h = let z : ◌≡◌ {A = ℕ} 0 1 = cc in omega arith
-
 pub fits-from-none : (line : ℕ) (fs : List (List ℕ)) (k : ℕ) (rs : List Rule) (gs : List (List ℕ)) → From fs k gs → length gs ≡ length rs → first_wrong line fs k rs ≡ None → Fits rs gs
 unfolding first_wrong
 fits-from-none line fs k [] [] at e h = tt
@@ -47,7 +45,7 @@ fits-from-none line fs k (r ∷ rs) (g ∷ gs) at e h =
   where
     by : (o : Option Cause) → wrong r (field fs k) ≡ o → (first_wrong line fs (k + 1) rs ≡ None → Fits rs gs) → onward line k (first_wrong line fs (k + 1) rs) o ≡ None → (wrong r g ≡ None) × Fits rs gs
     by None w rest n = (ap (wrong r) (sym (from_here fs k g gs at)) ∙ w, rest n)
-    by (Some c) w rest n = absurd (some_none _ n)
+    by (Some c) w rest n = absurd (none-some _ (sym n))
 
 pub none_from_fits : (line : ℕ) (fs : List (List ℕ)) (k : ℕ) (rs : List Rule) (gs : List (List ℕ)) → From fs k gs → Fits rs gs → first_wrong line fs k rs ≡ None
 unfolding first_wrong
@@ -58,7 +56,7 @@ none_from_fits line fs k (r ∷ rs) (g ∷ gs) at h =
   where
     by : (o : Option Cause) → None ≡ o → first_wrong line fs (k + 1) rs ≡ None → onward line k (first_wrong line fs (k + 1) rs) o ≡ None
     by None w n = n
-    by (Some c) w n = absurd (some_none c (sym w))
+    by (Some c) w n = absurd (none-some c w)
 
 pub numbers-from : (fs : List (List ℕ)) (k : ℕ) (gs : List (List ℕ)) → From fs k gs → numbers fs k (length gs) ≡ map value_of gs
 numbers-from fs k [] at = refl

@@ -7,6 +7,7 @@ use Rattle.std.proofs.lemmas.Bool.{eqb-true, leb-true, le-leb, and_parts, and_fr
 use Rattle.sets.specs.declared.bounds.Bounds.{Bounds}
 use Rattle.sets.specs.declared.shape.Shape.{Shape}
 use Rattle.sets.specs.Sets.{in_limits}
+use Rattle.std.proofs.lemmas.Option.{none-some}
 use Rattle.recipe.specs.declared.fault.Cause.TheVariants.{WordDue, FieldCount}
 use Rattle.recipe.specs.declared.fault.Fault.{Fault}
 use Rattle.recipe.specs.Fields.{value_of}
@@ -16,7 +17,7 @@ use Rattle.recipe.specs.Rules.{Form, set, between, same, wrong, field, first_wro
 use Rattle.recipe.specs.RequestLaws.{set_line, LawfulBounds}
 use Rattle.recipe.proofs.Parting.{Free}
 use Rattle.recipe.proofs.Figures.{Small, within-from-fits, fits-from-within, within-value, within-free, natural-from-fits, fits-from-natural, free_natural, same_true}
-use Rattle.recipe.proofs.Rulings.{Fits, some_none}
+use Rattle.recipe.proofs.Rulings.{Fits}
 use Rattle.recipe.proofs.LineForms.{Kept, kept_from_fits, fits-from-kept, number_of}
 use Rattle.recipe.proofs.Places.{kept_from_none, none_from_kept}
 use Rattle.recipe.proofs.Completing.{free_word}
@@ -107,7 +108,7 @@ set_from_none (w ∷ gs) some none = by (same w (codes "SET")) refl (sym (set_is
   where
     by : (b : Bool) → same w (codes "SET") ≡ b → form_fault begun 1 (w ∷ gs) (cond b (Some set) None) ≡ None → SetRead (w ∷ gs)
     by true e h = subst (λ v. Kept set 1 (v ∷ gs) → SetRead (v ∷ gs)) (sym (same_true w (codes "SET") e)) (set_from_kept gs) (kept_from_none begun 1 (w ∷ gs) set h).1
-    by false e h = absurd (some_none _ h)
+    by false e h = absurd (none-some _ (sym h))
 
 module _ (f : Shape) (b : Bounds) (shape : in_limits f ≡ true) (span : LawfulBounds b) where
   least_most : b.least ≤ℤ pos 2147483647
