@@ -1,10 +1,10 @@
 -- What is wrong with a field, and the first field that is.
-use Rattle.std.proofs.Common.{◌≡◌, ℕ, zero, suc, ◌+◌, Bool, true, false, cond, ◌&&◌, List, [], ◌∷◌, drop, ℤ, Some, None, Ok, Err, Decides, Option, Result, nat_eq, sym, refl, ap, ◌∙◌, inl, inr, arith, rules}
+use Rattle.std.proofs.Common.{◌≡◌, ℕ, zero, suc, ◌+◌, Bool, true, false, cond, ◌&&◌, List, [], ◌∷◌, drop, ℤ, Some, None, Ok, Err, Option, Result, nat_eq, sym, refl, ap, ◌∙◌, inl, inr, arith, rules}
 use Rattle.std.specs.Int.Signed.{le_z}
 use Rattle.std.specs.Option.{ok_or}
 use Rattle.std.specs.Result.{IsErr, IsErrAnd}
 use Rattle.std.specs.Cmp.Lexicographic.{pointwise}
-use Rattle.std.proofs.lemmas.Slice.Eq.{slice_eq-Decides, compares_Decides}
+use Rattle.std.proofs.lemmas.Slice.Eq.{slice_eq-Decides}
 use Rattle.std.proofs.lemmas.Int.{ints}
 use Rattle.std.proofs.lemmas.Option.{none-some}
 use Rattle.std.proofs.lemmas.Bool.{cond-true, cond-false, cases_Bool, both_ways, and_from, and_parts, and_left, and_right}
@@ -17,7 +17,7 @@ use Rattle.recipe.specs.declared.field.Field.TheVariants.{Empty, Word, Number, O
 use Rattle.recipe.specs.Fields.{is_word, is_number, value_of, Shows}
 use Rattle.recipe.specs.Promises.{Held, Judged}
 use Rattle.recipe.specs.Rules.{Rule, between, listed, same, member, wrong, field, first_wrong}
-use Rattle.recipe.proofs.Letters.{word_no_number}
+use Rattle.recipe.proofs.Letters.{word_no_number, same-decides}
 
 -- the fault of field k
 abbrev pub fault_of : ℕ → ℕ → Cause → Fault
@@ -76,10 +76,6 @@ shown_no_number Empty f e none = rw e
 shown_no_number (Word s) f e none = elim (cases_Bool (is_number f)) [ inl n ↦ absurd (word_no_number f e.1 n) | inr n ↦ n ]
 shown_no_number (Number s) f e none = absurd (none s refl)
 shown_no_number (Other s) f e none = e.3
-
--- equality of bytes as a test
-pub same-decides : (xs ys : List ℕ) → Decides (same xs ys) (xs ≡ ys)
-same-decides = compares_Decides same (search rules)
 
 pub same-from-equal : (xs ys : List ℕ) (r : Bool) → r ≡ pointwise nat_eq xs ys → r ≡ same xs ys
 same-from-equal xs ys r h = same_from_decides r (same xs ys) (slice_eq-Decides Decides-eqb xs ys r h) (same-decides xs ys)

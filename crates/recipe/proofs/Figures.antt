@@ -11,7 +11,7 @@ use Rattle.std.specs.List.{list_all}
 use Rattle.recipe.specs.Fields.{empty, is_digit, is_natural, is_number, is_word, is_zero, leading_zero, read_on, value_of}
 use Rattle.recipe.specs.Rules.{listed, between, same, wrong}
 use Rattle.recipe.proofs.Parting.{Free}
-use Rattle.recipe.proofs.Letters.{digit_range}
+use Rattle.recipe.proofs.Letters.{digit_range, same-decides}
 
 own : IsNumeralModel (λ ds. list_all is_digit ds ≡ true) (read_on 0)
 own = numerals_by_fold _ (search rules) read_on (search rules)
@@ -189,14 +189,7 @@ pub free_natural : (s n : ℕ) → s < 45 → n ≤ 2147483647 → Free s (decim
 free_natural s n l h = free_signed s (pos n) l (omega arith)
 
 pub same_true : (a b : List ℕ) → same a b ≡ true → a ≡ b
-same_true [] [] h = refl
-same_true [] (b ∷ bs) h = absurd (both_ways _ refl h)
-same_true (a ∷ bs) [] h = absurd (both_ways _ refl h)
-same_true (a ∷ bs) (b ∷ cs) h =
-    let parts = and_parts (eqb a b) (same bs cs) h in
-    let first = eqb-true a b parts.0 in
-    let rest = same_true bs cs parts.1 in
-    cc
+same_true a b h = (same-decides a b).0 h
 
 pub listed_from_fits : (v w f : List ℕ) → wrong (listed (v ∷ w ∷ [])) f ≡ None → (f ≡ v) ⊎ (f ≡ w)
 unfolding wrong

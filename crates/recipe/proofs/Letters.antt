@@ -1,9 +1,12 @@
 -- Words and numbers by their bytes.
-use Rattle.std.proofs.Common.{◌≡◌, ℕ, ◌<◌, ◌≤◌, Bool, true, false, not, ◌&&◌, eqb, leb, List, [], ◌∷◌, length, get_or, drop, sym, refl, ap, ◌∙◌, arith}
+use Rattle.std.proofs.Common.{◌≡◌, ℕ, ◌<◌, ◌≤◌, true, false, not, ◌&&◌, eqb, leb, List, [], ◌∷◌, length, get_or, drop, Decides, sym, refl, ap, ◌∙◌, arith, rules}
 use Rattle.std.proofs.lemmas.List.{nil_from_length}
 use Rattle.std.proofs.lemmas.Bool.{and_right, and_parts, not_from_true, leb-true, eq-eqb, ne_eqb, cond-true, cond-false, both_ways}
+use Rattle.std.proofs.Math.Bool.{and-true}
 use Rattle.std.specs.List.{list_all}
+use Rattle.std.proofs.lemmas.Slice.Eq.{compares_Decides}
 use Rattle.recipe.specs.Fields.{is_letter, is_digit, is_word, is_natural, is_number, is_zero}
+use Rattle.recipe.specs.Rules.{same}
 
 pub no_word : (bs : List ℕ) → length bs ≡ 0 → is_word bs ≡ false
 unfolding is_word
@@ -14,15 +17,11 @@ unfolding is_word
 word_letters [] h = absurd (omega arith)
 word_letters (b ∷ bs) h = refl
 
-and_true : (x : Bool) → (x && true) ≡ x
-and_true true = refl
-and_true false = refl
-
 -- digits that do not begin with a zero, but for the zero alone
 pub natural-digits : (bs : List ℕ) → 0 < length bs → (2 ≤ length bs → get_or bs 0 0 ≡ 48 → ⊥) → is_natural bs ≡ list_all is_digit bs
 natural-digits [] h ne = absurd (omega arith)
-natural-digits (b ∷ []) h ne = and_true (list_all is_digit (b ∷ []))
-natural-digits (b ∷ d ∷ bs) h ne = ap (λ t. list_all is_digit (b ∷ d ∷ bs) && not t) (ne_eqb b 48 (ne (omega arith))) ∙ and_true _
+natural-digits (b ∷ []) h ne = and-true (list_all is_digit (b ∷ []))
+natural-digits (b ∷ d ∷ bs) h ne = ap (λ t. list_all is_digit (b ∷ d ∷ bs) && not t) (ne_eqb b 48 (ne (omega arith))) ∙ and-true _
 
 pub number-plain : (bs : List ℕ) → (get_or bs 0 0 ≡ 45 → ⊥) → is_number bs ≡ is_natural bs
 unfolding is_number
@@ -48,7 +47,7 @@ pub number-minus : (bs : List ℕ) → get_or bs 0 0 ≡ 45 → (length bs ≡ 2
 number-minus [] e h = absurd (omega arith)
 number-minus (b ∷ bs) e h =
     let z : is_zero bs ≡ false = not_zero bs (λ n. h (omega arith)) in
-    number-signed b bs e ∙ ap (λ t. is_natural bs && not t) z ∙ and_true (is_natural bs)
+    number-signed b bs e ∙ ap (λ t. is_natural bs && not t) z ∙ and-true (is_natural bs)
 
 pub letter_range : (b : ℕ) → is_letter b ≡ true → (65 ≤ b) × (b ≤ 90)
 letter_range b h = let p = and_parts (leb 65 b) (leb b 90) h in (leb-true 65 b p.0, leb-true b 90 p.1)
@@ -65,3 +64,7 @@ word_no_number (b ∷ bs) w n =
     let plain : is_natural (b ∷ bs) ≡ true = sym (number-plain (b ∷ bs) (λ e. omega arith)) ∙ n in
     let d = digit_range b (and_parts (is_digit b) (list_all is_digit bs) (and_parts _ _ plain).0).0 in
     omega arith
+
+-- equality of bytes as a test
+pub same-decides : (xs ys : List ℕ) → Decides (same xs ys) (xs ≡ ys)
+same-decides = compares_Decides same (search rules)
