@@ -1,5 +1,6 @@
 -- The shapes of what the parts of the reader promise one another.
 use Rattle.std.specs.Prelude.{◌≡◌, ℕ, ◌+◌, ◌<◌, ◌≤◌, min, ◌&&◌, nat_le, nat_lt, int_le, cond, List, [], ◌∷◌, ◌++◌, length, ℤ, pos, negsuc, ◌≤ℤ◌, Some, None, Ok, Err, Option, Result}
+use Rattle.std.specs.Borrow.{Bor}
 use Rattle.sets.specs.Sets.{bounds_of}
 use Rattle.recipe.specs.declared.begun.Begun.{Begun}
 use Rattle.recipe.specs.declared.fault.Cause.TheVariants.{FieldCount, StageCount, WordDue}
@@ -56,6 +57,10 @@ pub record Counted (least greatest : ℕ) (z : ℤ) (n : ℕ) : Type 0 where
 
 abbrev pub fields_in : Line → List (List ℕ)
 fields_in l = fields_of l.bytes.now
+
+-- what the field f stands for, which is the first of two words or else the second
+abbrev pub stands_for : {T : Type 0} → List ℕ → Bor (List ℕ) × T → Bor (List ℕ) × T → T
+stands_for f a b = cond (same f a.0.now) a.1 b.1
 
 -- the fault of a line that must have from least to greatest fields behind its word
 abbrev pub wrong_count : ℕ → ℕ → Line → Option Fault

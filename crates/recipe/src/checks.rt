@@ -1,6 +1,6 @@
-ghost use Rattle.std.specs.Prelude.{◌≡◌, ◌+◌, ◌^◌, ◌<◌, true, [], ◌∷◌, pos, if◌then◌else◌};
+ghost use Rattle.std.specs.Prelude.{◌≡◌, ◌+◌, ◌^◌, ◌<◌, true, [], ◌∷◌, pos};
 ghost use Rattle.recipe.specs.Fields.{is_word};
-ghost use Rattle.recipe.specs.Promises.{Counted, Held, Judged, Passes, fields_in, wrong_count, wrong_from, wrong_head};
+ghost use Rattle.recipe.specs.Promises.{Counted, Held, Judged, Passes, fields_in, stands_for, wrong_count, wrong_from, wrong_head};
 ghost use Rattle.recipe.specs.Rules.{between, listed, same, field as at, number as number_at};
 
 use crate::fault::{Cause, Fault};
@@ -81,7 +81,7 @@ impl Line<'_> {
         first: (&[u8], T),
         second: (&[u8], T),
     ) -> Result<T, Fault>
-        ensures { Judged (wrong_from self.now k (listed (first.entry.0.now ∷ second.entry.0.now ∷ []) ∷ [])) (λ x. x ≡ (if same (at (fields_in self.now) k) first.entry.0.now then first.entry.1 else second.entry.1)) result }
+        ensures { Judged (wrong_from self.now k (listed (first.entry.0.now ∷ second.entry.0.now ∷ []) ∷ [])) (λ x. x ≡ stands_for (at (fields_in self.now) k) first.entry second.entry) result }
     {
         let Field::Word(word) = self.field(usize::from(k)) else {
             return Err(self.fault(Cause::NotListed, k));

@@ -24,6 +24,7 @@ impl Reading {
         requires { 0 < self.old.left }
         ensures { Takes (so_far self.old) line.now (so_far self.new) result }
     {
+        // The stage is taken out and put back: of one that is borrowed while its line may be refused, no proof is made.
         let last = self.recipe.len - 1;
         let stage = grown(self.recipe.stages[last], line)?;
         self.left -= 1;
