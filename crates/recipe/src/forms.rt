@@ -28,16 +28,12 @@ fn taps(line: &Line, from: usize, n: usize) -> Result<[i16; 8], Fault>
 }
 
 // A quotient without taps, which holds the place of steps and rows to come.
-fn no_quotient() -> Quotient
-    ensures { taps_of result ≡ [] }
-{
-    Quotient {
-        taps: [0; 8],
-        tap_count: 0,
-        residue: 0,
-        exponent: 0,
-    }
-}
+const NO_QUOTIENT: Quotient = Quotient {
+    taps: [0; 8],
+    tap_count: 0,
+    residue: 0,
+    exponent: 0,
+};
 
 fn parity(number: usize) -> Parity
     ensures { result ≡ parity_from number }
@@ -65,7 +61,7 @@ pub(crate) fn lift_line(line: &Line) -> Result<Begun, Fault>
     let left = line.natural(7, 1, 4)?;
     let step = Step {
         offset: 0,
-        quotient: no_quotient(),
+        quotient: NO_QUOTIENT,
     };
     let lift = Lift {
         axis,
@@ -92,7 +88,7 @@ pub(crate) fn dep_line(line: &Line) -> Result<Begun, Fault>
     let dep = Dep {
         first,
         count: 1,
-        rows: [no_quotient(); 7],
+        rows: [NO_QUOTIENT; 7],
     };
     Ok(Begun {
         stage: Stage::Dep(dep),
