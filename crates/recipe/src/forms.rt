@@ -1,6 +1,5 @@
-ghost use Rattle.std.specs.Prelude.{◌≡◌, ◌+◌, ◌-◌, ◌≤◌, [], length, take, replicate, pos, if◌then◌else◌, codes};
+ghost use Rattle.std.specs.Prelude.{◌≡◌, ◌+◌, ◌-◌, ◌≤◌, [], length, take, replicate, pos, codes};
 ghost use Rattle.stages.specs.Channels.{half_of};
-ghost use Rattle.stages.specs.Plain.{taps_of};
 ghost use Rattle.recipe.specs.Grammar.{natural, numbers, lift_from, parity_from, step_from, row_from};
 ghost use Rattle.stages.specs.Plain.{plain_step, plain_row, lift as a-lift, dep as a-dep, rct as an-rct};
 ghost use Rattle.recipe.specs.Promises.{Judged, Begins, fields_in, headed, wrong_as, wrong_from};

@@ -1,4 +1,4 @@
-ghost use Rattle.std.specs.Prelude.{◌≡◌, length};
+ghost use Rattle.std.specs.Prelude.{length};
 ghost use Rattle.recipe.specs.Tables.{table_of, stages_of};
 ghost use Rattle.recipe.specs.Numbered.{recipe_stage};
 ghost use Rattle.std.proofs.Common.{arith};
