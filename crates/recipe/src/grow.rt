@@ -9,6 +9,7 @@ use crate::line::Line;
 use stages::stage::Stage;
 
 // The stage at hand with the step or the row of one more line.
+#[tactic(auto, using(crate::proofs::Tables::room_lift, crate::proofs::Tables::room_dep))]
 pub(crate) fn grown(stage: Stage, line: &Line) -> Result<Stage, Fault>
     requires { 0 < room_in (Some (plain stage)) }
     ensures stage { Grows (plain stage) line.now result }
