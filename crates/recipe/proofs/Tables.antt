@@ -34,8 +34,8 @@ at_hand-last (t ∷ []) s = refl
 at_hand-last (t ∷ u ∷ ts) s = at_hand-last (u ∷ ts) s
 
 -- the room in the last stage of a table
-pub room-last : (us ts : List Plain) (s : Plain) → us ≡ ts ++ s ∷ [] → room_in (at_hand us) ≡ room_in (Some s)
-room-last us ts s e = ap room_in (ap at_hand e ∙ at_hand-last ts s)
+pub room_last : (us ts : List Plain) (s : Plain) → us ≡ ts ++ s ∷ [] → room_in (at_hand us) ≡ room_in (Some s)
+room_last us ts s e = ap room_in (ap at_hand e ∙ at_hand-last ts s)
 
 pub with_step-lift : (x : PlainStep) (ts : List Plain) (l : PlainLift) (ss : List PlainStep) → with_step x (ts ++ lift l ss ∷ []) ≡ ts ++ lift l (ss ++ x ∷ []) ∷ []
 with_step-lift x [] l ss = refl

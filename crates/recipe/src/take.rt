@@ -9,6 +9,7 @@ use crate::reading::Reading;
 
 impl Reading {
     // Takes a line by which a stage begins.
+    #[tactic(auto, using(crate::proofs::Tables::room_last))]
     fn begin(&mut self, line: &Line) -> Result<(), Fault>
         requires { self.old.left ≡ 0 }
         ensures { Takes (so_far self.old) line.now (so_far self.new) result }

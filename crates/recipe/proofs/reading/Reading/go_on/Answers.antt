@@ -8,7 +8,7 @@ use Rattle.recipe.specs.Room.{room_in}
 use Rattle.recipe.specs.Tables.{table_of}
 use Rattle.recipe.proofs.Faults.{passed}
 use Rattle.recipe.proofs.Growing.{due, joined}
-use Rattle.recipe.proofs.Tables.{front, ends, set_last, room-last, some_at_hand}
+use Rattle.recipe.proofs.Tables.{front, ends, set_last, room_last, some_at_hand}
 use Rattle.recipe.proofs.reading.Reading.go_on.Goals as goal
 use Rattle.recipe.proofs.reading.Reading.go_on.Goals.{After-index-self-last, at-grown-requires, at-returns-in_err-stage, at-invariant_of-self-2, at-returns}
 
@@ -23,7 +23,7 @@ start : (c : After-index-self-last) → so_far c.args.self.now ≡ due (front c.
 start c = joined _ _ _ _ (ends c.args.self.now.recipe (room c) (last c) c.index-self-last.result refl) (omega arith)
 
 room-in-last : (c : After-index-self-last) → room_in (at_hand (table_of c.args.self.now.recipe)) ≡ room_in (Some (plain (last c)))
-room-in-last c = room-last _ _ _ (ends c.args.self.now.recipe (room c) (last c) c.index-self-last.result refl)
+room-in-last c = room_last _ _ _ (ends c.args.self.now.recipe (room c) (last c) c.index-self-last.result refl)
 
 pub grown-requires : goal.grown-requires
 grown-requires c = omega (arith, room (at-grown-requires c).After-index-self-last, room-in-last (at-grown-requires c).After-index-self-last)
@@ -39,7 +39,7 @@ invariant_of-self-2 c =
     let so = (at-invariant_of-self-2 c).After-index-self-last in
     let r = c.args.self.now.recipe in
     let some = some_at_hand r (room so) in
-    let e = room-last _ _ _ (set_last r.stages r.len c.in_ok-stage.stage some (omega (arith, r.full, r.short))) in
+    let e = room_last _ _ _ (set_last r.stages r.len c.in_ok-stage.stage some (omega (arith, r.full, r.short))) in
     ((length-set _ _ _ ∙ r.full, (r.short, tt)), (omega (arith, e, room-in-last so, c.in_ok-stage.ensures.room, c.args.self.now.fits), tt))
 
 pub returns : goal.returns
