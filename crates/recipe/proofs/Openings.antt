@@ -8,44 +8,50 @@ use Rattle.recipe.specs.declared.fault.Fault.{Fault}
 use Rattle.recipe.specs.declared.line.Line.{Line}
 use Rattle.recipe.specs.Grammar.{Sofar, at_hand, form_begun, form_inside, form_due, form_fault, form_taken, has_space, line_fault, taken, fault_at}
 use Rattle.stages.specs.Plain.{Plain, rct as an-rct}
-use Rattle.recipe.specs.Promises.{Judged, Begins, Opened, headed, fields_in}
+use Rattle.recipe.specs.Promises.{Judged, Begins, Opens, wrong_as, wrong_start, headed, fields_in}
 use Rattle.recipe.specs.Rules.{Form, lift, dep, rct, same, field, has_fields, first_wrong, rules_of}
 
--- just so many fields behind the word
-pub just : (n m : ℕ) → (leb (n + 1) m && leb m (n + 1)) ≡ eqb m (n + 1)
-just n m = grind arith
+-- the word by which a line begins
+abbrev pub word : Line → List ℕ
+word l = field (fields_in l) 0
 
 -- the word and the fields, tested one after the other
-module _ (word sized : Bool) (line : ℕ) (rest first second : Option Fault) (f₁ f₂ : Fault) (is₁ : first ≡ Some f₁) (is₂ : second ≡ Some f₂) where
-  pub tested_fault : (f : Fault) → cond word (cond sized None second) first ≡ Some f → cond word (cond sized rest second) first ≡ Some f
-  tested_fault f = by word sized
+module _ (starts sized : Bool) (line : ℕ) (rest first second : Option Fault) (f₁ f₂ : Fault) (is₁ : first ≡ Some f₁) (is₂ : second ≡ Some f₂) where
+  pub tested_fault : (f : Fault) → cond starts (cond sized None second) first ≡ Some f → cond starts (cond sized rest second) first ≡ Some f
+  tested_fault f = by starts sized
     where
-      by : (word sized : Bool) → cond word (cond sized None second) first ≡ Some f → cond word (cond sized rest second) first ≡ Some f
+      by : (starts sized : Bool) → cond starts (cond sized None second) first ≡ Some f → cond starts (cond sized rest second) first ≡ Some f
       by true true e = absurd (none-some _ e)
       by true false e = e
       by false t e = e
 
-  pub tested_none : cond word (cond sized None second) first ≡ None → (word ≡ true) × (cond word (cond sized rest second) first ≡ rest)
-  tested_none = by word sized
+  pub tested_none : cond starts (cond sized None second) first ≡ None → (starts ≡ true) × (cond starts (cond sized rest second) first ≡ rest)
+  tested_none = by starts sized
     where
-      by : (word sized : Bool) → cond word (cond sized None second) first ≡ None → (word ≡ true) × (cond word (cond sized rest second) first ≡ rest)
+      by : (starts sized : Bool) → cond starts (cond sized None second) first ≡ None → (starts ≡ true) × (cond starts (cond sized rest second) first ≡ rest)
       by true true e = (refl, refl)
       by true false e = absurd (none-some _ (sym (sym is₂ ∙ e)))
       by false t e = absurd (none-some _ (sym (sym is₁ ∙ e)))
 
--- a line by which a stage begins
-module _ (ts : List Plain) (l : Line) (g : Form) (is : form_begun (field (fields_in l) 0) ≡ Some g) (sized : Bool) (fits : sized ≡ has_fields g (length (fields_in l))) where
-  begins_with : line_fault (record { stages = ts; left = 0 }) l.number (fields_in l) ≡ cond (ltb (length ts) 16) (cond sized (first_wrong l.number (fields_in l) 1 (rules_of g (fields_in l))) (fault_at FieldCount l.number)) (fault_at StageCount l.number)
+-- a line by which a stage begins, with so many fields behind its word
+module _ (ts : List Plain) (l : Line) (g : Form) (is : form_begun (word l) ≡ Some g) (behind : ℕ) (fits : (m : ℕ) → has_fields g m ≡ eqb m (behind + 1)) where
+  just : (leb (behind + 1) (length (fields_in l)) && leb (length (fields_in l)) (behind + 1)) ≡ has_fields g (length (fields_in l))
+  just = both (length (fields_in l)) ∙ sym (fits (length (fields_in l)))
+    where
+      both : (m : ℕ) → (leb (behind + 1) m && leb m (behind + 1)) ≡ eqb m (behind + 1)
+      both m = grind arith
+
+  begins_with : line_fault (record { stages = ts; left = 0 }) l.number (fields_in l) ≡ cond (ltb (length ts) 16) (cond (leb (behind + 1) (length (fields_in l)) && leb (length (fields_in l)) (behind + 1)) (wrong_as g l) (fault_at FieldCount l.number)) (fault_at StageCount l.number)
   unfolding line_fault
-  begins_with = ap (form_fault (record { stages = ts; left = 0 }) l.number (fields_in l)) is ∙ ap (λ t. cond (ltb (length ts) 16) (cond t (first_wrong l.number (fields_in l) 1 (rules_of g (fields_in l))) (fault_at FieldCount l.number)) (fault_at StageCount l.number)) (sym fits)
+  begins_with = ap (form_fault (record { stages = ts; left = 0 }) l.number (fields_in l)) is ∙ ap (λ t. cond (ltb (length ts) 16) (cond t (wrong_as g l) (fault_at FieldCount l.number)) (fault_at StageCount l.number)) (sym just)
 
-  pub begins_fault : (f : Fault) → cond (ltb (length ts) 16) (cond sized None (fault_at FieldCount l.number)) (fault_at StageCount l.number) ≡ Some f → line_fault (record { stages = ts; left = 0 }) l.number (fields_in l) ≡ Some f
-  begins_fault f e = begins_with ∙ tested_fault (ltb (length ts) 16) sized l.number _ _ _ _ _ refl refl f e
+  pub begins_fault : (f : Fault) → wrong_start ts behind l ≡ Some f → line_fault (record { stages = ts; left = 0 }) l.number (fields_in l) ≡ Some f
+  begins_fault f e = begins_with ∙ tested_fault (ltb (length ts) 16) _ l.number _ _ _ _ _ refl refl f e
 
-  pub begins_judged : (s : Plain) (n : ℕ) (r : Result Begun Fault) → form_taken (record { stages = ts; left = 0 }) (fields_in l) (Some g) ≡ record { stages = ts ++ s ∷ []; left = n } → cond (ltb (length ts) 16) (cond sized None (fault_at FieldCount l.number)) (fault_at StageCount l.number) ≡ None → Judged (first_wrong l.number (fields_in l) 1 (rules_of g (fields_in l))) (Begins s n) r → Judged (line_fault (record { stages = ts; left = 0 }) l.number (fields_in l)) (Opened ts l) r
+  pub begins_judged : (s : Plain) (m : ℕ) (r : Result Begun Fault) → form_taken (record { stages = ts; left = 0 }) (fields_in l) (Some g) ≡ record { stages = ts ++ s ∷ []; left = m } → wrong_start ts behind l ≡ None → Judged (wrong_as g l) (Begins s m) r → Opens ts l r
   unfolding taken
-  begins_judged s n (Ok b) t e h =
-      let p = tested_none (ltb (length ts) 16) sized l.number (first_wrong l.number (fields_in l) 1 (rules_of g (fields_in l))) _ _ _ _ refl refl e in (
+  begins_judged s m (Ok b) t e h =
+      let p = tested_none (ltb (length ts) 16) _ l.number (wrong_as g l) _ _ _ _ refl refl e in (
         begins_with ∙ p.1 ∙ h.0,
         record {
           room = ltb-true _ _ p.0;
@@ -55,8 +61,7 @@ module _ (ts : List Plain) (l : Line) (g : Form) (is : form_begun (field (fields
     where
       ends : {s s' : Plain} {n n' : ℕ} → s ≡ s' → n ≡ n' → ◌≡◌ {A = Sofar} (record { stages = ts ++ s ∷ []; left = n }) (record { stages = ts ++ s' ∷ []; left = n' })
       ends p q = cc
-  begins_judged s n (Err f) t e h =
-      begins_with ∙ (tested_none (ltb (length ts) 16) sized l.number (first_wrong l.number (fields_in l) 1 (rules_of g (fields_in l))) _ _ _ _ refl refl e).1 ∙ h
+  begins_judged s m (Err f) t e h = begins_with ∙ (tested_none (ltb (length ts) 16) _ l.number (wrong_as g l) _ _ _ _ refl refl e).1 ∙ h
 
 -- a line of the stage at hand
 module _ (s : Sofar) (due : 0 < s.left) (line : ℕ) (fs : List (List ℕ)) where
