@@ -18,6 +18,7 @@ pub struct Bank<T> {
 }
 
 // The first channel of a stage.
+#[tactic(auto, unfolding(stages::specs::Plain::plain))]
 fn start(stage: &Stage) -> usize
     ensures { result ≡ start_of (plain stage.now) }
 {

@@ -9,7 +9,7 @@ use crate::low_bits::low_bits;
 use sets::shape::Shape;
 use stages::stage::Rct;
 
-// One sample of each of three channels.
+// One sample of each of three channels. Not an array: a number for each channel says less than its name.
 #[derive(Clone, Copy)]
 struct Colours {
     first: i32,
@@ -18,6 +18,7 @@ struct Colours {
 }
 
 // The floor of a quarter.
+#[tactic(auto, unfolding(stages::specs::Floors::floor_over))]
 fn quarter(sum: i64) -> i64
     ensures { result ≡ floor_over sum 2 }
 {
@@ -59,9 +60,11 @@ fn recolour<const UNDO: bool>(a: i32, b: i32, c: i32) -> Colours
 
 // Recolours `count` samples of three channels that start at p, q and r.
 fn recolour_all<const UNDO: bool>(area: &mut [i32], p: usize, q: usize, r: usize, count: usize)
-    requires { (p + count ≤ q) × ((q + count ≤ r) × (r + count ≤ length area.old)) }
+    requires apart { (p + count ≤ q) × (q + count ≤ r) }
+    requires inside { r + count ≤ length area.old }
     ensures { Recoloured UNDO p q r count area.old area.new }
 {
+    // by index: the three channels are walked in place, side by side
     for t in 0..count {
         let new = recolour::<UNDO>(area[p + t], area[q + t], area[r + t]);
         area[p + t] = new.first;
@@ -72,7 +75,9 @@ fn recolour_all<const UNDO: bool>(area: &mut [i32], p: usize, q: usize, r: usize
 
 // Applies or undoes the colour transform.
 pub(crate) fn turn_rct<const UNDO: bool>(rct: &Rct, shape: &Shape, area: &mut [i32])
-    requires { (in_limits shape.now ≡ true) × ((rct.now.first + 3 ≤ shape.now.channels) × (length area.old ≡ size_of shape.now)) }
+    requires limits { in_limits shape.now ≡ true }
+    requires room { rct.now.first + 3 ≤ shape.now.channels }
+    requires long { length area.old ≡ size_of shape.now }
     ensures { RctTurned UNDO shape.now rct.now.first area.old area.new }
 {
     let n = shape.samples;

@@ -11,9 +11,6 @@ use Rattle.transform.proofs.Rows.{reads_at}
 use Rattle.transform.proofs.Sums.{sum_more, sum_all}
 use Rattle.transform.proofs.row.Row.quotient_at.Goals as goal
 
-pub overflow_add-sum : goal.overflow_add-sum
-overflow_add-sum g c = omega (arith, ints)
-
 pub loop-k-preserved : goal.loop-k-preserved
 loop-k-preserved g c =
     let q = c.args.self.now.quotient in

@@ -1,10 +1,7 @@
 use Rattle.std.proofs.Common.{◌≡◌, ◌+◌, ◌-◌, ◌*◌, not, eqb, subst, arith}
 use Rattle.transform.specs.Rowed.{Rowed}
-use Rattle.transform.proofs.Rows.{rowed-none, rowed-one-more}
+use Rattle.transform.proofs.Rows.{rowed-one-more}
 use Rattle.transform.proofs.row.Row.turn_taps.Goals as goal
-
-pub loop-i-init : goal.loop-i-init
-loop-i-init g c = rowed-none _ _ _
 
 pub loop-i-preserved : goal.loop-i-preserved
 loop-i-preserved g c =

@@ -1,12 +1,7 @@
 use Rattle.std.proofs.Common.{◌+◌, ◌≤◌, subst, arith}
 use Rattle.stages.specs.Plain.{plain_lift, plain_step}
-use Rattle.transform.proofs.Windows.{window_none, window_more, window_end}
+use Rattle.transform.proofs.Windows.{window_more, window_end}
 use Rattle.transform.proofs.turn.Turn.positions.Goals as goal
-
-pub loop-j-init : goal.loop-j-init
-loop-j-init g c =
-    let t = c.args.self.now in
-    (omega arith, c.requires.inside.0, c.requires.hits, window_none t.on.lifting.shape (plain_lift t.on.lifting.lift) t.parity (plain_step t.step) _ _ _)
 
 pub loop-j-preserved : goal.loop-j-preserved
 loop-j-preserved g c =

@@ -1,13 +1,7 @@
 use Rattle.std.proofs.Common.{◌≡◌, arith}
 use Rattle.stages.specs.Plain.{plain_lift, plain_step}
-use Rattle.transform.proofs.Running.{runs_none, runs_more, runs_all}
+use Rattle.transform.proofs.Running.{runs_more, runs_all}
 use Rattle.transform.proofs.turn.Turn.runs.Goals as goal
-
-pub loop-line-init : goal.loop-line-init
-loop-line-init g c =
-    let t = c.args.self.now in
-    let on = t.on in
-    runs_none on.lifting.shape (plain_lift on.lifting.lift) on.lines on.lined c.requires.axis t.parity (plain_step t.step) _ _ _ _ c.requires.sized
 
 pub loop-line-preserved : goal.loop-line-preserved
 loop-line-preserved g c =
