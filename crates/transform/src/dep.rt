@@ -51,6 +51,7 @@ impl DepRows {
     }
 
     // Applies the rows, the last first: in this order each reads old samples alone.
+    #[tactic(auto, using(crate::proofs::DepRuns::forth_none, crate::proofs::DepRuns::forth_more))]
     pub(crate) fn apply(&self, area: &mut [i32])
         requires { length area.old ≡ size_of self.now.shape }
         ensures { Forth (row_passes self.now.shape self.now.dep.first (plain_rows self.now.dep) (self.now.dep.count - 1)) area.old area.new }
@@ -61,6 +62,7 @@ impl DepRows {
     }
 
     // Undoes the rows, the first first.
+    #[tactic(auto, using(crate::proofs::DepRuns::back_none, crate::proofs::DepRuns::back_more))]
     pub(crate) fn undo(&self, area: &mut [i32])
         requires { length area.old ≡ size_of self.now.shape }
         ensures { Back (row_passes self.now.shape self.now.dep.first (plain_rows self.now.dep) (self.now.dep.count - 1)) area.old area.new }

@@ -9,6 +9,7 @@ use stages::stage::Dep;
 impl Work for Dep {
     ghost kind = { λ d. plain_dep d.first (plain_rows d) };
 
+    #[tactic(auto, using(crate::proofs::DepWork::dep_applied))]
     fn apply(&self, shape: &Shape, area: &mut [i32]) {
         let rows = DepRows {
             shape: *shape,
@@ -17,6 +18,7 @@ impl Work for Dep {
         rows.apply(area);
     }
 
+    #[tactic(auto, using(crate::proofs::DepWork::dep_source))]
     fn take_back(&self, shape: &Shape, area: &mut [i32]) -> bool {
         let rows = DepRows {
             shape: *shape,

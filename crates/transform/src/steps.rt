@@ -32,6 +32,7 @@ impl LongLines {
     }
 
     // The steps in order.
+    #[tactic(auto, using(crate::proofs::Stepping::forth_none, crate::proofs::Stepping::forth_more))]
     pub(crate) fn apply_steps(&self, area: &mut [i32])
         requires { length area.old ≡ size_of self.now.lifting.shape }
         ensures { Forth (passes_of self.now.lifting) area.old area.new }
@@ -42,6 +43,7 @@ impl LongLines {
     }
 
     // The steps undone, the last first.
+    #[tactic(auto, using(crate::proofs::Stepping::back_none, crate::proofs::Stepping::back_more))]
     pub(crate) fn undo_steps(&self, area: &mut [i32])
         requires { length area.old ≡ size_of self.now.lifting.shape }
         ensures { Back (passes_of self.now.lifting) area.old area.new }
