@@ -22,6 +22,7 @@ impl Work for Lift {
         }
     }
 
+    #[tactic(auto, using(crate::proofs::LiftWork::steps_source, crate::proofs::LiftWork::halved_back))]
     fn take_back(&self, shape: &Shape, area: &mut [i32]) -> bool {
         let lifting = Lifting {
             shape: *shape,
