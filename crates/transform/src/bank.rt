@@ -73,7 +73,6 @@ impl<T: Table> Stages for Bank<T> {
         stage.apply(shape, area);
     }
 
-    #[tactic(auto, using(crate::proofs::Finding::found_in_bank))]
     fn backward(&self, shape: &Shape, number: usize, spans: &SpanList, area: &mut [i32]) -> bool {
         let stage = self.table.stage(shape.channels, number);
         stage.take_back(shape, area) && spans.hold(shape, area)
