@@ -1,5 +1,6 @@
 -- A bank of stages that each keep the laws is lawful.
-use Rattle.std.proofs.Common.{◌≡◌, ℕ, ◌≤◌, Bool, true, false, cond, List, length, Some, None, subst, arith}
+use Rattle.std.proofs.Common.{◌≡◌, ℕ, ◌≤◌, Bool, true, false, cond, List, length, Some, None, subst}
+use Rattle.std.proofs.lemmas.Option.{cond_some}
 use Rattle.sets.specs.declared.bounds.Bounds.{Bounds}
 use Rattle.sets.specs.declared.shape.Shape.{Shape}
 use Rattle.sets.specs.Areas.{Within}
@@ -10,15 +11,12 @@ use Rattle.rack.specs.Laws.{SameSpans, SameWidth, Contained, Apart, Local, Lawfu
 use Rattle.rack.specs.Meanings.{Suits, unlisted}
 use Rattle.rules.specs.Samples.{samples_after, bank, StageLaws}
 
-made_some : (t : Bool) (bs cs : List Bounds) → cond t (Some bs) None ≡ Some cs → bs ≡ cs
-made_some true bs cs e = cc
-made_some false bs cs e = let z : ◌≡◌ {A = ℕ} 0 1 = cc in absurd (omega arith)
-
 same_width : (f : Shape) (p : ℕ → Bool) (t u : Bool) (bs cs : List Bounds) → t ≡ u → SameSpans f p bs cs → SameWidth f p (cond t (Some bs) None) (cond u (Some cs) None)
-same_width f p true true bs cs e s = s
-same_width f p true false bs cs e s = let z : ◌≡◌ {A = ℕ} 0 1 = cc in absurd (omega arith)
-same_width f p false true bs cs e s = let z : ◌≡◌ {A = ℕ} 0 1 = cc in absurd (omega arith)
-same_width f p false false bs cs e s = tt
+same_width f p t u bs cs e s = subst (λ v. SameWidth f p (cond t (Some bs) None) (cond v (Some cs) None)) e (alike t)
+  where
+    alike : (t : Bool) → SameWidth f p (cond t (Some bs) None) (cond t (Some cs) None)
+    alike true = s
+    alike false = tt
 
 module _ (n : ℕ) (p : ℕ → ℕ → Plain) (few : n ≤ 1000) (laws : (f : Shape) (s : Plain) → in_limits f ≡ true → fits_in s f.channels ≡ true → StageLaws f s) where
   -- the laws of a stage that can be asked for, and the spans that it makes
@@ -28,8 +26,8 @@ module _ (n : ℕ) (p : ℕ → ℕ → Plain) (few : n ≤ 1000) (laws : (f : S
   bank-contained : Contained (bank n p)
   bank-contained = record {
     few = few;
-    many = λ f k bs cs r. subst (λ ds. length ds ≡ f.channels) (made_some _ _ cs r.makes) ((law f k r.suits).many bs r.many);
-    inside = λ f k bs cs xs r w. subst (λ ds. Within f ds (samples_after f (p f.channels k) xs)) (made_some _ _ cs r.makes) ((law f k r.suits).inside bs xs r.many w);
+    many = λ f k bs cs r. subst (λ ds. length ds ≡ f.channels) (cond_some _ _ cs r.makes).1 ((law f k r.suits).many bs r.many);
+    inside = λ f k bs cs xs r w. subst (λ ds. Within f ds (samples_after f (p f.channels k) xs)) (cond_some _ _ cs r.makes).1 ((law f k r.suits).inside bs xs r.many w);
   }
 
   bank-apart : Apart (bank n p)
@@ -37,7 +35,7 @@ module _ (n : ℕ) (p : ℕ → ℕ → Plain) (few : n ≤ 1000) (laws : (f : S
 
   bank-local : Local (bank n p)
   bank-local = record {
-    keeps_spans = λ f k bs cs r. subst (λ ds. SameSpans f (unlisted (bank n p) f k) bs ds) (made_some _ _ cs r.makes) ((law f k r.suits).keeps_spans bs r.many);
+    keeps_spans = λ f k bs cs r. subst (λ ds. SameSpans f (unlisted (bank n p) f k) bs ds) (cond_some _ _ cs r.makes).1 ((law f k r.suits).keeps_spans bs r.many);
     keeps_samples = λ f k bs cs xs r w. (law f k r.suits).keeps_samples xs w.long;
     local_spans = λ f k bs ds s l m e. same_width f _ _ _ _ _ ((law f k s).local_width bs ds l m e) ((law f k s).local_spans bs ds l m e);
     local_samples = λ f k bs cs ds es xs ys r q v w e. (law f k r.suits).local_samples xs ys v.long w.long e;

@@ -2,6 +2,7 @@
 use Rattle.std.proofs.Common.{◌≡◌, ℕ, zero, suc, ◌+◌, ◌-◌, ◌*◌, ◌/◌, ◌%◌, ◌<◌, ◌≤◌, ℤ, pos, negsuc, ◌+ℤ◌, ◌-ℤ◌, ◌*ℤ◌, nat_abs, sym, refl, subst, inl, inr, arith}
 use Rattle.std.proofs.lemmas.Int.{ints}
 use Rattle.std.proofs.lemmas.Bool.{cond-true, cond-false, lt-ltb, le-ltb, cases_lt}
+use Rattle.std.proofs.lemmas.Bool.Decides.{nat_tests}
 use Rattle.stages.specs.declared.stage.Extension.{Extension}
 use Rattle.stages.specs.declared.stage.Extension.TheVariants.{Mirrored, Nearest}
 use Rattle.stages.specs.declared.stage.Parity.{Parity}
@@ -46,20 +47,12 @@ mirrored_parity n z i h (above {k} l m) = let r = mirrored_parity n (pos (2 * (n
 nearest-below-end : (n : ℕ) (z : ℤ) → 2 ≤ n → nearest n z < n
 unfolding nearest
 nearest-below-end n (negsuc k) h = omega arith
-nearest-below-end n (pos k) h =
-    elim (cases_lt k n) [
-      | inl p ↦ omega (arith, cond-true _ k (n - 1 - (k - (n - 1)) % 2) (lt-ltb k n p))
-      | inr p ↦ omega (arith, cond-false _ k (n - 1 - (k - (n - 1)) % 2) (le-ltb k n p))
-    ]
+nearest-below-end n (pos k) h = grind (arith, nat_tests)
 
 nearest-parity : (n : ℕ) (z : ℤ) → 2 ≤ n → nearest n z % 2 ≡ nat_abs z % 2
 unfolding nearest
 nearest-parity n (negsuc k) h = omega arith
-nearest-parity n (pos k) h =
-    elim (cases_lt k n) [
-      | inl p ↦ omega (arith, cond-true _ k (n - 1 - (k - (n - 1)) % 2) (lt-ltb k n p))
-      | inr p ↦ omega (arith, cond-false _ k (n - 1 - (k - (n - 1)) % 2) (le-ltb k n p))
-    ]
+nearest-parity n (pos k) h = grind (arith, nat_tests)
 
 pub extended-below : (e : Extension) (n : ℕ) (z : ℤ) → 2 ≤ n → extended e n z < n
 extended-below Mirrored n z h = mirrored_below n z _ (mirror-to n z h)

@@ -10,7 +10,7 @@ use Rattle.sets.specs.Sets.{rows_of}
 use Rattle.stages.specs.Plain.{PlainLift, PlainStep, lift}
 use Rattle.rules.specs.Lifted.{count_of, touched, lone_odd, doubled_at, lift_passes, lift_samples}
 use Rattle.rules.specs.Passes.{Fitting}
-use Rattle.rules.proofs.LiftKinds.{lift_many, lift_lone, lift_still}
+use Rattle.rules.proofs.LiftKinds.{lift_many, lift_lone}
 use Rattle.rules.proofs.LiftReads.{lifts_blind}
 use Rattle.rules.proofs.LiftSpansFitting.{lifts_fitting, lone_fitting}
 use Rattle.rules.proofs.Places.{length-area, at-area, at-sample, channel_below, time_below}
@@ -86,14 +86,6 @@ module _ (f : Shape) (l : PlainLift) (ss : List PlainStep) (s : SpanList) (w : W
     odd_foreign ys long n xs inside gives =
         let h : n.address < size_of f = omega (arith, n.below) in
         n.odd (at xs n.address) (sym (doubled-hit xs n.address h n.hit) ∙ ap (λ v. at v n.address) gives)
-
-  -- no index, or one even: nothing
-  module _ (m : leb 2 (count_of f l) ≡ false) (o : lone_odd f l ≡ false) where
-    pub still_applied : (xs : List ℤ) → xs ≡ lift_samples f l ss xs
-    still_applied xs = sym (lift_still f l ss xs m o)
-
-    pub still_source : (ys : List ℤ) → OnlySource f (lift l ss) (rows_of s) ys ys
-    still_source ys = record { gives = λ _. lift_still f l ss ys m o; only = λ xs _ gives. sym gives ∙ lift_still f l ss xs m o }
 
 -- a doubling undone, or refused at an odd sample
 pub halved_back : (f : Shape) (l : PlainLift) (ss : List PlainStep) → leb 2 (count_of f l) ≡ false → lone_odd f l ≡ true → (ys zs : List ℤ) → length ys ≡ size_of f →

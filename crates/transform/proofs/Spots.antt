@@ -4,14 +4,13 @@ use native.Mathlib.Nat.{div-eq_of_lt}
 use Rattle.std.proofs.lemmas.Nat.{pow_pos}
 use Rattle.std.proofs.lemmas.Bool.{and_from, le-leb, lt-ltb}
 use Rattle.sets.specs.declared.shape.Shape.{Shape}
-use Rattle.stages.specs.declared.stage.Axis.{Axis}
 use Rattle.stages.specs.declared.stage.Axis.TheVariants.{Time, Channel}
 use Rattle.stages.specs.Lifting.{lists_channel}
 use Rattle.stages.specs.Lines.{first_index, index_count}
 use Rattle.stages.specs.Plain.{PlainLift}
 use Rattle.rules.specs.Lifted.{on_axis, first_of, count_of, address_of}
 use Rattle.rules.proofs.LiftLines.{place_from}
-use Rattle.rules.proofs.LiftPlaces.{source_at, touched-index, listed_below, listed_from}
+use Rattle.rules.proofs.LiftPlaces.{along, channel_is_not_time, source_at, touched-index, listed_below, listed_from}
 use Rattle.rules.proofs.Places.{address_split, time_below}
 use Rattle.transform.specs.declared.lines.Lines.{Lines}
 use Rattle.transform.specs.Lined.{spot, Spot, Lined}
@@ -48,10 +47,6 @@ module _ (f : Shape) (l : PlainLift) (n : Lines) (fits : l.first + l.count ≤ f
         let index : n.first + (index_at f l a - n.first) ≡ index_at f l a = omega (arith, s.from) in
         (w.0, sym (address_split f a) ∙ sym s.address ∙ ap (address_of f l (a / f.samples) (a % f.samples)) (sym index) ∙ w.1.spots (index_at f l a - n.first));
   }
-
--- the same lifting along an axis
-abbrev pub along : Axis → PlainLift → PlainLift
-along x l = record { axis = x; first = l.first; count = l.count; level = l.level; extension = l.extension; parity = l.parity }
 
 -- a line from place 0 on has its first index there
 pub first_at_zero : (v : ℕ) → first_index v 0 ≡ 0
@@ -93,9 +88,6 @@ lined_time f l n fits some first count lines start by apart =
         channel = λ e. omega (arith, listed_from l c on);
       },
     ))
-
-channel_is_not_time : Channel ≡ Time → ⊥
-channel_is_not_time e = let z : ◌≡◌ {A = ℕ} 0 1 = cc in omega arith
 
 lined_channel : (f : Shape) (l : PlainLift) (n : Lines) → l.first + l.count ≤ f.channels → 1 ≤ l.count → n.first ≡ first_of f (along Channel l) → n.count ≡ count_of f (along Channel l) →
     n.lines ≡ f.samples → n.start ≡ l.first * f.samples → n.by ≡ 2 ^ l.level * f.samples → n.apart ≡ 1 → Lined f (along Channel l) n

@@ -16,7 +16,7 @@ use Rattle.transform.specs.declared.lines.Lines.{Lines}
 use Rattle.transform.specs.Lined.{Lined}
 use Rattle.transform.specs.Parts.{part_of, index_at, of_index, between}
 use Rattle.transform.specs.Turned.{Turned}
-use Rattle.transform.proofs.Joining.{part_none, part_same, part_whole, parts_joined}
+use Rattle.transform.proofs.Joining.{part_same, part_whole, parts_joined}
 
 -- numbers from i on and below e
 abbrev within : ℕ → ℕ → ℕ → Bool
@@ -54,10 +54,6 @@ module _ (f : Shape) (l : PlainLift) (m : Parity) (s : PlainStep) where
 
   hit_parity : (a : ℕ) → pass.hits a ≡ true → index_at f l a % 2 ≡ parity_of m
   hit_parity a t = eqb-true _ _ (and_parts (touched f l (a / f.samples) (a % f.samples)) _ t).1
-
-  -- a part of no index
-  pub window_none : (undo : Bool) (i : ℕ) (xs : List ℤ) → Turned undo (part_of pass (between f l i i)) xs xs
-  window_none undo i xs = part_none undo pass _ xs (λ a h t. grind (arith, nat_tests))
 
   -- an end that has not the parity of the step may be put off by one
   pub window_end : (undo : Bool) (i j e : ℕ) (xs ys : List ℤ) → j % 2 ≡ parity_of m → e ≤ j → j ≤ e + 1 → Turned undo (part_of pass (between f l i j)) xs ys → Turned undo (part_of pass (between f l i e)) xs ys
