@@ -2,8 +2,7 @@ ghost use Rattle.std.specs.Prelude.{◌≡◌, ℕ, ◌+◌, ◌-◌, ◌*◌, �
 ghost use Rattle.sets.specs.Areas.{size_of};
 ghost use Rattle.stages.specs.Channels.{no_row};
 ghost use Rattle.stages.specs.Plain.{plain_rows};
-ghost use Rattle.rules.specs.Mixed.{row_pass, row_passes};
-ghost use Rattle.transform.specs.DepRows.{CutTo};
+ghost use Rattle.transform.specs.DepRows.{CutTo, row_pass_of, row_passes_of};
 ghost use Rattle.transform.specs.Turned.{Turned, Forth, Back};
 
 use crate::dep_rows::DepRows;
@@ -12,11 +11,12 @@ use stages::quotient::Quotient;
 
 impl DepRows {
     // Row i, from 1 up, without the taps that have no sample to read.
+    #[tactic(auto, using(crate::proofs::DepRows::taps_cut))]
     fn row(&self, i: usize) -> Quotient
         requires { (1 ≤ i) × (i < self.now.dep.count) }
         ensures { CutTo i (slice_index_or (plain_rows self.now.dep) (i - 1) no_row) result }
     {
-        let mut row = self.dep.rows[i - 1];
+        let mut row = self.dep.rows()[i - 1];
         row.tap_count = row.tap_count.min(i);
         row
     }
@@ -36,7 +36,7 @@ impl DepRows {
     fn turn<const TAKE: bool>(&self, i: usize, area: &mut [i32])
         requires row { (1 ≤ i) × (i < self.now.dep.count) }
         requires long { length area.old ≡ size_of self.now.shape }
-        ensures { Turned (not TAKE) (row_pass self.now.shape self.now.dep.first (plain_rows self.now.dep) i) area.old area.new }
+        ensures { Turned (not TAKE) (row_pass_of self.now i) area.old area.new }
     {
         let quotient = self.row(i);
         let from = self.starts();
@@ -54,7 +54,7 @@ impl DepRows {
     #[tactic(auto, using(crate::proofs::DepRuns::forth_none, crate::proofs::DepRuns::forth_more))]
     pub(crate) fn apply(&self, area: &mut [i32])
         requires { length area.old ≡ size_of self.now.shape }
-        ensures { Forth (row_passes self.now.shape self.now.dep.first (plain_rows self.now.dep) (self.now.dep.count - 1)) area.old area.new }
+        ensures { Forth (row_passes_of self.now) area.old area.new }
     {
         for i in (1..self.dep.count).rev() {
             self.turn::<true>(i, area);
@@ -65,7 +65,7 @@ impl DepRows {
     #[tactic(auto, using(crate::proofs::DepRuns::back_none, crate::proofs::DepRuns::back_more))]
     pub(crate) fn undo(&self, area: &mut [i32])
         requires { length area.old ≡ size_of self.now.shape }
-        ensures { Back (row_passes self.now.shape self.now.dep.first (plain_rows self.now.dep) (self.now.dep.count - 1)) area.old area.new }
+        ensures { Back (row_passes_of self.now) area.old area.new }
     {
         for i in 1..self.dep.count {
             self.turn::<false>(i, area);

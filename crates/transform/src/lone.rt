@@ -22,7 +22,7 @@ fn half(x: i32) -> Option<i32>
     if x % 2 == 0 { Some(x / 2) } else { None }
 }
 
-// The samples of lines of one odd index are evenly spaced: an area is walked in place. Two loops, since only halving can fail.
+// The samples of such lines are evenly spaced, and are walked in place. Doubling and halving are two loops, since only halving can fail.
 impl Lifting {
     // Doubles the samples of lines of one odd index.
     pub(crate) fn double_lone(&self, area: &mut [i32])

@@ -25,6 +25,7 @@ fn quarter(sum: i64) -> i64
     sum >> 2
 }
 
+// The floor of a quarter of a + 2b + c.
 fn luma(a: i32, b: i32, c: i32) -> i32
     ensures { result ≡ int_wrap w32 (floor_over (a +ℤ (pos 2 *ℤ b +ℤ c)) 2) }
 {

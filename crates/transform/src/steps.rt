@@ -1,8 +1,6 @@
 ghost use Rattle.std.specs.Prelude.{◌≡◌, length};
 ghost use Rattle.sets.specs.Areas.{size_of};
-ghost use Rattle.stages.specs.Plain.{plain_lift, plain_step};
-ghost use Rattle.rules.specs.Lifted.{lift_pass};
-ghost use Rattle.transform.specs.Steps.{parity_at, passes_of};
+ghost use Rattle.transform.specs.Steps.{parity_at, step_pass, passes_of};
 ghost use Rattle.transform.specs.Turned.{Turned, Forth, Back};
 
 use crate::long_lines::LongLines;
@@ -21,7 +19,7 @@ impl LongLines {
     // Carries out step k, or undoes it.
     fn turn<const UNDO: bool>(&self, k: usize, step: &Step, area: &mut [i32])
         requires { length area.old ≡ size_of self.now.lifting.shape }
-        ensures { Turned UNDO (lift_pass self.now.lifting.shape (plain_lift self.now.lifting.lift) (parity_at self.now.lifting.lift.parity k) (plain_step step.now)) area.old area.new }
+        ensures { Turned UNDO (step_pass self.now.lifting k step.now) area.old area.new }
     {
         let turn = Turn {
             on: *self,

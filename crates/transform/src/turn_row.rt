@@ -26,6 +26,7 @@ impl Row {
         ensures high { result ≤ℤ pos (2 ^ 50) }
     {
         let mut sum = self.quotient.residue as i64;
+        // by index, up to a constant: the compiler writes the loop out
         for k in 0..N {
             sum += product(self.quotient.taps[k], area[self.from[k] + shift]);
         }
