@@ -1,18 +1,20 @@
 -- One line, channel or stage more of a report.
-use Rattle.std.proofs.Common.{◌≡◌, ℕ, ◌+◌, ◌<◌, List, [], ◌∷◌, ◌++◌, length, get_or, drop, replicate, Some, None, Ok, Err, Option, Result, sym, refl, ap, ◌∙◌, arith}
-use Rattle.std.proofs.lemmas.List.{drop_more}
+use Rattle.std.proofs.Common.{◌≡◌, ℕ, ◌+◌, ◌<◌, List, [], ◌∷◌, ◌++◌, length, get_or, drop, replicate, Some, None, Ok, Err, Option, Result, sym, refl, ap, ◌∙◌, subst, arith}
+use Rattle.std.proofs.lemmas.List.{drop_more, length-map, get_or-map}
 use Rattle.sets.specs.declared.bounds.Bounds.{Bounds}
 use Rattle.sets.specs.declared.refusal.Refusal.{Refusal}
 use Rattle.sets.specs.declared.shape.Shape.{Shape}
 use Rattle.sets.specs.Ordered.{no_bounds}
 use Rattle.sets.specs.Sets.{bounds_of}
-use Rattle.stages.specs.Plain.{Plain}
+use Rattle.stages.specs.Plain.{Plain, plain}
 use Rattle.stages.specs.Stages.{spans_after, spans_refused, spans_left, answered}
 use Rattle.recipe.specs.declared.fault.Fault.{Fault}
 use Rattle.recipe.specs.declared.request.Request.{Request}
 use Rattle.recipe.specs.Replies.{answered as replied}
 use Rattle.recipe.specs.Requests.{requested}
-use Rattle.recipe.specs.Tables.{table_of}
+use Rattle.recipe.specs.declared.table.Recipe.{Recipe}
+use Rattle.recipe.specs.Tables.{stages_of, table_of}
+use Rattle.stages.specs.declared.stage.Stage.{Stage}
 use Rattle.reporting.specs.declared.line.Line.TheVariants.{Span, Fault as FaultLine, Refused}
 use Rattle.reporting.specs.Lines.{channel_lines, stage_lines, request_lines, report_lines}
 
@@ -52,3 +54,10 @@ accepted_lines text r p a e = ap request_lines (sym a ∙ ap replied e)
 pub refused_lines : (text : List ℕ) (r : Result Request Fault) (f : Fault) → replied r ≡ requested text → r ≡ Err f → report_lines text ≡ FaultLine f ∷ []
 unfolding report_lines
 refused_lines text r f a e = ap request_lines (sym a ∙ ap replied e)
+
+-- what stands at a place of a recipe's stages stands in its table by its words and numbers
+pub stage_at : (r : Recipe) (xs : List Stage) (k : ℕ) (s : Stage) → xs ≡ stages_of r → k < length xs → s ≡ get_or xs k s → (k < length (table_of r)) × (get_or (table_of r) k (plain s) ≡ plain s)
+stage_at r xs k s is h e =
+    let inside : k < length (stages_of r) = subst (λ l. k < length l) is h in
+    let here : s ≡ get_or (stages_of r) k s = subst (λ l. s ≡ get_or l k s) is e in
+    (omega (arith, inside, length-map (stages_of r) plain), get_or-map plain (stages_of r) k s (plain s) inside ∙ ap plain (sym here))

@@ -39,10 +39,7 @@ fn add_stages(lines: &mut Vec<Line>, request: &Request) -> Result<(), AllocError
     let Ok(mut spans) = SpanList::repeat(request.span, request.shape.channels) else {
         unreachable()
     };
-    for k in 0..request.recipe.len() {
-        let Some(stage) = request.recipe.get(k) else {
-            unreachable()
-        };
+    for (k, stage) in request.recipe.stages().iter().enumerate() {
         if let Err(refusal) = stage.spans(&request.shape, &mut spans) {
             lines.push(Line::Refused { stage: k, refusal })?;
             return Ok(());
