@@ -5,7 +5,7 @@ use crate::quotient::Quotient;
 use crate::stage::{Dep, Lift, Step};
 
 impl Quotient {
-    // The taps that count.
+    // The taps in use.
     pub fn taps(&self) -> &[i16]
         ensures { result.now ≡ taps_of self.now }
     {
@@ -14,7 +14,7 @@ impl Quotient {
 }
 
 impl Lift {
-    // The steps that count.
+    // The steps in use.
     pub fn steps(&self) -> &[Step]
         ensures { result.now ≡ steps_of self.now }
     {
@@ -23,7 +23,7 @@ impl Lift {
 }
 
 impl Dep {
-    // The rows that count, one fewer than the channels.
+    // The rows in use, one fewer than the channels.
     pub fn rows(&self) -> &[Quotient]
         ensures { result.now ≡ take (self.now.count - 1) self.now.rows }
     {

@@ -19,7 +19,7 @@ pub(crate) fn gathered<F: Fn(usize) -> Option<Span>>(count: usize, row: F) -> Op
     Some(rows)
 }
 
-// The same where each can be made.
+// The same where each can be made: a loop of its own, so that no caller has a None to rule out.
 #[tactic(auto, using(crate::proofs::Gathers::listed_none, crate::proofs::Gathers::listed_all))]
 pub(crate) fn listed<F: Fn(usize) -> Span>(count: usize, row: F) -> SpanList
     requires room { count ≤ 64 }

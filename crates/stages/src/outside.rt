@@ -4,9 +4,10 @@ ghost use Rattle.stages.specs.Lines.{is_line, is_index, extended};
 use crate::line::Indices;
 use crate::stage::Extension;
 
-// More indices than any set has, and an index further off than any that a step reads.
+// More indices than the lines of any set have.
 const MOST: usize = 1 << 21;
 
+// Further off than any index that a step reads.
 const FAR: i64 = 1 << 40;
 
 impl Extension {

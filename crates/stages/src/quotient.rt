@@ -3,7 +3,7 @@ ghost use Rattle.std.specs.Prelude.{◌≡◌, ◌≤◌, length};
 // The floor of (the sum of the taps, each times a sample, plus the residue) over 2 to the exponent.
 #[derive(Clone, Copy)]
 pub struct Quotient {
-    // no heap, and Copy: the first `tap_count` count
+    // no heap, and Copy: the taps in use stand first
     pub taps: [i16; 8],
     pub tap_count: usize,
     pub residue: i32,

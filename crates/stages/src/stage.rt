@@ -38,7 +38,7 @@ pub struct Lift {
     pub level: u32,
     pub extension: Extension,
     pub parity: Parity,
-    // no heap, and Copy: the first `step_count` count
+    // no heap, and Copy: the steps in use stand first
     pub steps: [Step; 4],
     pub step_count: usize,
     ghost inside: { first + count ≤ 64 },
@@ -52,7 +52,7 @@ pub struct Lift {
 pub struct Dep {
     pub first: usize,
     pub count: usize,
-    // no heap, and Copy: the first `count` - 1 count
+    // no heap, and Copy: the rows in use stand first
     pub rows: [Quotient; 7],
     ghost inside: { first + count ≤ 64 },
     ghost some: { 1 ≤ count },
