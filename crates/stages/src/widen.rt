@@ -10,6 +10,7 @@ use sets::refusal::Refusal;
 use sets::shape::Shape;
 use sets::span_list::SpanList;
 
+// The kinds are a closed set, so each of these is a match: a trait of kinds would be four impls of the same three functions.
 impl Stage {
     // The first channel that the stage lists.
     #[tactic(auto, unfolding(crate::specs::Plain::plain))]
