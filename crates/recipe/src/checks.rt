@@ -70,6 +70,7 @@ impl Line<'_> {
         requires high { greatest < 2 ^ 31 }
         ensures { Judged (wrong_from self.now k (between (pos least) (pos greatest) ∷ [])) (Counted least greatest (number_at (fields_in self.now) k)) result }
     {
+        // Casts that lose nothing, as the check proves: `try_from` would ask for an answer where it fails.
         let value = self.number(k, least as i32, greatest as i32)?;
         Ok(value as usize)
     }

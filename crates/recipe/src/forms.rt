@@ -17,6 +17,7 @@ fn taps(line: &Line, from: usize, n: usize) -> Result<[i16; 8], Fault>
     requires few { n ≤ 8 }
     ensures { Judged (wrong_from line.now from (replicate n tap_rule)) (λ ts. take n ts ≡ numbers (fields_in line.now) from n) result }
 {
+    // The casts, here and below, lose nothing, as the check proves: `try_from` would ask for an answer where it fails.
     let mut found: [i16; 8] = [0; 8];
     // By index: of what is written through an adapter of `iter_mut` nothing is known afterwards.
     for i in 0..n {
