@@ -1,5 +1,5 @@
 -- The text of a report by its first line and what follows.
-use Rattle.std.proofs.Common.{◌≡◌, ℕ, ◌<◌, ◌≤◌, leb, List, ◌∷◌, length, Some, None, Ok, Err, codes, Result, sym, refl, ap, ◌∙◌}
+use Rattle.std.proofs.Common.{◌≡◌, ℕ, ◌+◌, ◌<◌, ◌≤◌, leb, List, ◌∷◌, length, Some, None, Ok, Err, codes, Option, Result, sym, refl, ap, ◌∙◌}
 use Rattle.std.proofs.lemmas.Bool.{cond-true, cond-false, le-leb, lt-leb}
 use Rattle.recipe.specs.declared.fault.Cause.TheVariants.{EndsInside, TooLong}
 use Rattle.recipe.specs.declared.fault.Fault.{Fault}
@@ -7,7 +7,10 @@ use Rattle.recipe.specs.declared.request.Request.{Request}
 use Rattle.std.specs.Result.{IsErr, IsErrAnd}
 use Rattle.recipe.specs.Fields.{fields_of, lines_of, tail_of}
 use Rattle.recipe.specs.Grammar.{begun, read_from}
-use Rattle.recipe.specs.Promises.{FirstLine, NoLine, headed}
+use Rattle.recipe.specs.Promises.{NoLine, fields_in, headed}
+use Rattle.recipe.specs.declared.line.Line.{Line}
+use Rattle.recipe.specs.declared.lines.Lines.{Lines}
+use Rattle.recipe.specs.Readings.{NextLine, reading_from}
 use Rattle.recipe.specs.Replies.{answered}
 use Rattle.recipe.specs.Requests.{PlainRequest, set_fault, asked, request_from, requested}
 use Rattle.recipe.specs.Rules.{set}
@@ -33,15 +36,21 @@ wrong-set l ls tail f e = rw (e, request_from)
 right_set : (l : List ℕ) (ls : List (List ℕ)) (tail : List ℕ) → set_fault (fields_of l) ≡ None → request_from (l ∷ ls) tail ≡ asked (fields_of l) (read_from begun 2 ls tail)
 right_set l ls tail e = rw (e, request_from)
 
-module _ (t line more : List ℕ) (few : length t ≤ 65536) (first : FirstLine t line more) where
-  split : requested t ≡ request_from (line ∷ lines_of more) (tail_of more)
-  split = short t few ∙ ap (λ ls. request_from ls (tail_of t)) first.lines ∙ ap (request_from (line ∷ lines_of more)) first.tail
+-- a text whose first line is l
+module _ (a : Lines) (one : a.number ≡ 1) (few : length a.rest.now ≤ 65536) (l : Line) (b : Lines) (h : NextLine a l b) where
+  split : requested a.rest.now ≡ request_from (l.bytes.now ∷ lines_of b.rest.now) (tail_of b.rest.now)
+  split = short _ few ∙ ap (λ ls. request_from ls (tail_of a.rest.now)) h.first.lines ∙ ap (request_from (l.bytes.now ∷ lines_of b.rest.now)) h.first.tail
 
-  pub set_wrong : (f : Fault) → headed (codes "SET") set 1 (fields_of line) ≡ Some f → requested t ≡ Err f
-  set_wrong f e = split ∙ wrong-set line _ _ f (sym (set_headed _) ∙ e)
+  set-first : (o : Option Fault) → headed (codes "SET") set l.number (fields_in l) ≡ o → set_fault (fields_in l) ≡ o
+  set-first o e = sym (set_headed _) ∙ ap (λ n. headed (codes "SET") set n (fields_in l)) (sym (h.here ∙ one)) ∙ e
 
-  pub set_right : headed (codes "SET") set 1 (fields_of line) ≡ None → requested t ≡ asked (fields_of line) (read_from begun 2 (lines_of more) (tail_of more))
-  set_right e = split ∙ right_set line _ _ (sym (set_headed _) ∙ e)
+  pub set_wrong : (f : Fault) → headed (codes "SET") set l.number (fields_in l) ≡ Some f → requested a.rest.now ≡ Err f
+  set_wrong f e = split ∙ wrong-set _ _ _ f (set-first _ e)
+
+  pub set_right : headed (codes "SET") set l.number (fields_in l) ≡ None → requested a.rest.now ≡ asked (fields_in l) (reading_from begun b)
+  set_right e =
+      split ∙ right_set _ _ _ (set-first _ e)
+      ∙ ap (λ n. asked (fields_in l) (read_from begun n (lines_of b.rest.now) (tail_of b.rest.now))) (sym (h.next ∙ ap (λ n. n + 1) one))
 
 -- a fault that is passed on
 pub answered-err : (r : Result Request Fault) (o : Result PlainRequest Fault) (f : Fault) → IsErr r × IsErrAnd r (λ x. x ≡ f) → o ≡ Err f → answered r ≡ o

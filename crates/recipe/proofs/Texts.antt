@@ -9,7 +9,10 @@ use Rattle.recipe.specs.declared.fault.Fault.{Fault}
 use Rattle.recipe.specs.Fields.{cut, heads, final, lines_of, tail_of, fields_of, empty}
 use Rattle.recipe.specs.Grammar.{Sofar, line_fault, taken, read_from}
 use Rattle.stages.specs.Plain.{Plain}
-use Rattle.recipe.specs.Promises.{FirstLine, NoLine}
+use Rattle.recipe.specs.Promises.{FirstLine, NoLine, fields_in}
+use Rattle.recipe.specs.declared.line.Line.{Line}
+use Rattle.recipe.specs.declared.lines.Lines.{Lines}
+use Rattle.recipe.specs.Readings.{LinesEnd, NextLine, reading_from}
 use Rattle.std.specs.Result.{IsErr, IsErrAnd}
 use Rattle.recipe.specs.declared.table.Recipe.{Recipe}
 use Rattle.recipe.specs.Replies.{by_words}
@@ -58,10 +61,10 @@ module _ (t line more : List ℕ) (first : FirstLine t line more) (s : Sofar) (n
   split : read_from s number (lines_of t) (tail_of t) ≡ read_from s number (line ∷ lines_of more) (tail_of more)
   split = ap (λ ls. read_from s number ls (tail_of t)) first.lines ∙ ap (read_from s number (line ∷ lines_of more)) first.tail
 
-  pub read_next : line_fault s number (fields_of line) ≡ None → read_from s number (lines_of t) (tail_of t) ≡ read_from (taken s (fields_of line)) (number + 1) (lines_of more) (tail_of more)
+  read_next : line_fault s number (fields_of line) ≡ None → read_from s number (lines_of t) (tail_of t) ≡ read_from (taken s (fields_of line)) (number + 1) (lines_of more) (tail_of more)
   read_next e = split ∙ past-line s number line _ _ e
 
-  pub read_fault : (f : Fault) → line_fault s number (fields_of line) ≡ Some f → read_from s number (lines_of t) (tail_of t) ≡ Err f
+  read_fault : (f : Fault) → line_fault s number (fields_of line) ≡ Some f → read_from s number (lines_of t) (tail_of t) ≡ Err f
   read_fault f e = split ∙ at-line s number line _ _ f e
 
 -- a text without a line feed
@@ -70,15 +73,34 @@ module _ (t : List ℕ) (none : NoLine t) (s : Sofar) (line : ℕ) where
   unfolding read_from
   ended = ap (λ ls. read_from s line ls (tail_of t)) none.lines ∙ ap (read_from s line []) none.tail
 
-  pub read_done : length t ≡ 0 → s.left ≡ 0 → read_from s line (lines_of t) (tail_of t) ≡ Ok s.stages
+  read_done : length t ≡ 0 → s.left ≡ 0 → read_from s line (lines_of t) (tail_of t) ≡ Ok s.stages
   read_done e z = ended ∙ ap (λ t. cond (empty t && eqb s.left 0) (Ok s.stages) (Err (record { cause = EndsInside; line = line; field = 0 }))) (nil_from_length t e) ∙ cond-true _ _ _ (eq-eqb s.left 0 z)
 
-  pub read_short : (length t ≡ 0 → s.left ≡ 0 → ⊥) → read_from s line (lines_of t) (tail_of t) ≡ Err (record { cause = EndsInside; line = line; field = 0 })
+  read_short : (length t ≡ 0 → s.left ≡ 0 → ⊥) → read_from s line (lines_of t) (tail_of t) ≡ Err (record { cause = EndsInside; line = line; field = 0 })
   read_short ne = ended ∙ cond-false _ _ _ (short t ne)
     where
       short : (t : List ℕ) → (length t ≡ 0 → s.left ≡ 0 → ⊥) → (empty t && eqb s.left 0) ≡ false
       short [] ne = ne_eqb s.left 0 (ne refl)
       short (b ∷ bs) ne = refl
+
+-- the same for lines that are read one after the other
+module _ (s : Sofar) (a : Lines) (l : Line) (b : Lines) (h : NextLine a l b) where
+  pub next-kept : line_fault s l.number (fields_in l) ≡ None → reading_from s a ≡ reading_from (taken s (fields_in l)) b
+  next-kept e =
+      read_next _ _ _ h.first s a.number (ap (λ n. line_fault s n (fields_in l)) (sym h.here) ∙ e)
+      ∙ ap (λ n. read_from (taken s (fields_in l)) n (lines_of b.rest.now) (tail_of b.rest.now)) (sym h.next)
+
+  pub next-broken : (f : Fault) → line_fault s l.number (fields_in l) ≡ Some f → reading_from s a ≡ Err f
+  next-broken f e = read_fault _ _ _ h.first s a.number f (ap (λ n. line_fault s n (fields_in l)) (sym h.here) ∙ e)
+
+module _ (s : Sofar) (a b : Lines) (h : LinesEnd a b) where
+  pub end-done : length b.rest.now ≡ 0 → s.left ≡ 0 → reading_from s a ≡ Ok s.stages
+  end-done e z = read_done _ h.none s a.number (ap (λ l. length l.rest.now) (sym h.same) ∙ e) z
+
+  pub end-short : (length b.rest.now ≡ 0 → s.left ≡ 0 → ⊥) → reading_from s a ≡ Err (record { cause = EndsInside; line = b.number; field = 0 })
+  end-short ne =
+      read_short _ h.none s a.number (λ e z. ne (ap (λ l. length l.rest.now) h.same ∙ e) z)
+      ∙ ap (λ l. Err (record { cause = EndsInside; line = l.number; field = 0 })) (sym h.same)
 
 -- a fault that is passed on
 pub by_words_err : (o : Result (List Plain) Fault) (r : Result Recipe Fault) (f : Fault) → IsErr r × IsErrAnd r (λ x. x ≡ f) → o ≡ Err f → by_words r ≡ o

@@ -7,7 +7,7 @@ ghost use Rattle.recipe.specs.Rules.{set};
 
 use crate::fault::{Cause, Fault};
 use crate::line::Line;
-use crate::lines::first_line;
+use crate::lines::Lines;
 use crate::read::recipe_from;
 use crate::request::Request;
 use crate::table::Recipe;
@@ -54,15 +54,15 @@ fn set_and_recipe(text: &[u8]) -> Result<Request, Fault>
             field: 0,
         });
     }
-    let Some((bytes, rest)) = first_line(text) else {
-        return Err(Fault {
-            cause: Cause::EndsInside,
-            line: 1,
-            field: 0,
-        });
+    let mut lines = Lines {
+        rest: text,
+        number: 1,
     };
-    let set = set_due(&Line { bytes, number: 1 })?;
-    let recipe = recipe_from(rest, 2)?;
+    let Some(line) = lines.next_line() else {
+        return Err(lines.ends_inside());
+    };
+    let set = set_due(&line)?;
+    let recipe = recipe_from(lines)?;
     Ok(Request { recipe, ..set })
 }
 

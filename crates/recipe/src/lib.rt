@@ -13,6 +13,7 @@ mod grow;
 mod kinds;
 pub mod line;
 mod lines;
+mod next_line;
 pub mod numbered;
 mod numbers;
 pub mod read;

@@ -1,10 +1,9 @@
-ghost use Rattle.std.specs.Option.{MatchOption};
-ghost use Rattle.recipe.specs.Promises.{FirstLine, NoLine};
+ghost use Rattle.std.specs.Prelude.{◌+◌, ◌^◌, ◌<◌, length};
 
-// The first line of a text, without its line feed, and what follows, if there is a line feed.
-pub(crate) fn first_line(text: &[u8]) -> Option<(&[u8], &[u8])>
-    ensures cases { MatchOption result (NoLine text.now) (λ p. FirstLine text.now p.0.now p.1.now) }
-{
-    let end = text.iter().position(|b| *b == b'\n')?;
-    Some((&text[..end], &text[end + 1..]))
+// What is still to be read of a text, and the number of its next line, from 1.
+#[derive(Clone, Copy)]
+pub(crate) struct Lines<'a> {
+    pub(crate) rest: &'a [u8],
+    pub(crate) number: usize,
+    ghost few: { number + length rest.now < 2 ^ 64 },
 }

@@ -1,40 +1,30 @@
-ghost use Rattle.std.specs.Prelude.{◌≡◌, ◌≤◌};
-ghost use Rattle.recipe.specs.Fields.{lines_of, tail_of};
-ghost use Rattle.recipe.specs.Grammar.{begun, read_from, reading};
+ghost use Rattle.std.specs.Prelude.{◌≡◌};
+ghost use Rattle.recipe.specs.Grammar.{begun, reading};
+ghost use Rattle.recipe.specs.Readings.{reading_from};
 ghost use Rattle.recipe.specs.Replies.{Answers, by_words};
 ghost use Rattle.recipe.specs.Tables.{table_of};
 ghost use Rattle.recipe.specs.Written.{ReadingLaws};
 
-use crate::fault::{Cause, Fault};
-use crate::line::Line;
-use crate::lines::first_line;
+use crate::fault::Fault;
+use crate::lines::Lines;
 use crate::reading::Reading;
 use crate::table::Recipe;
 
-// The recipe of a text whose first line has the number `first`.
-pub(crate) fn recipe_from(text: &[u8], first: usize) -> Result<Recipe, Fault>
-    requires { first ≤ 2 }
-    ensures { by_words result ≡ read_from begun first (lines_of text.now) (tail_of text.now) }
+// The recipe that lines write.
+pub(crate) fn recipe_from(mut lines: Lines<'_>) -> Result<Recipe, Fault>
+    ensures { by_words result ≡ reading_from begun lines.entry }
 {
     let mut reading = Reading {
         recipe: Recipe::new(),
         left: 0,
     };
-    let mut rest = text;
-    let mut number = first; // counted here, since the end of the text has a number too
-    while let Some((bytes, after)) = first_line(rest) {
-        reading.take(&Line { bytes, number })?;
-        rest = after;
-        number += 1;
+    while let Some(line) = lines.next_line() {
+        reading.take(&line)?;
     }
-    if rest.is_empty() && reading.left == 0 {
+    if lines.rest.is_empty() && reading.left == 0 {
         return Ok(reading.recipe);
     }
-    Err(Fault {
-        cause: Cause::EndsInside,
-        line: number,
-        field: 0,
-    })
+    Err(lines.ends_inside())
 }
 
 impl Recipe {
@@ -45,7 +35,10 @@ impl Recipe {
         ensures law { ReadingLaws }
     {
         self.len = 0; // what an earlier text left is let go
-        *self = recipe_from(text, 1)?;
+        *self = recipe_from(Lines {
+            rest: text,
+            number: 1,
+        })?;
         Ok(())
     }
 }

@@ -1,6 +1,9 @@
-use Rattle.std.proofs.Common.{◌≡◌, Ok, sym, ap, ◌∙◌}
-use Rattle.recipe.specs.Fields.{fields_of, lines_of, tail_of}
-use Rattle.recipe.specs.Grammar.{begun, read_from}
+use Rattle.std.proofs.Common.{◌≡◌, Ok, Err, refl, sym, ap, ◌∙◌}
+use Rattle.recipe.specs.declared.fault.Cause.TheVariants.{EndsInside}
+use Rattle.recipe.specs.declared.lines.Lines.{Lines}
+use Rattle.recipe.specs.Grammar.{begun}
+use Rattle.recipe.specs.Promises.{fields_in}
+use Rattle.recipe.specs.Readings.{reading_from}
 use Rattle.recipe.specs.Requests.{asked, requested}
 use Rattle.recipe.proofs.Alike.{alike_requests}
 use Rattle.recipe.proofs.Reports.{too_long, no_line, set_wrong, set_right, answered-err}
@@ -8,26 +11,27 @@ use Rattle.recipe.proofs.ask.set_and_recipe.Goals as goal
 use Rattle.recipe.proofs.ask.set_and_recipe.Goals.{In_ok-set, at-returns-in_err-recipe, at-returns}
 
 -- the set is right, so the recipe decides
-after-set : (c : In_ok-set) → requested c.args.text.now ≡ asked (fields_of c.in-Some.bytes.now) (read_from begun 2 (lines_of c.in-Some.rest.now) (tail_of c.in-Some.rest.now))
-after-set c = set_right c.args.text.now _ _ c.if-text-gt65536.false c.in-Some.ensures.cases c.in_ok-set.ensures.0
+after-set : (c : In_ok-set) → requested c.args.text.now ≡ asked (fields_in c.in-Some.line) (reading_from begun c.next_line.new.self)
+after-set c = set_right _ refl c.if-text-gt65536.false _ _ c.in-Some.ensures.cases c.in_ok-set.ensures.0
 
 pub returns-then-text-gt65536 : goal.returns-then-text-gt65536
 returns-then-text-gt65536 c = sym (too_long c.args.text.now c.if-text-gt65536.true)
 
 pub returns-in_default : goal.returns-in_default
-returns-in_default c = sym (no_line c.args.text.now c.if-text-gt65536.false c.in_default.ensures.cases)
+returns-in_default c =
+    let ends = c.in_default.ensures.cases in
+    rw c.ends_inside.ensures (ap (λ (l : Lines). Err (record { cause = EndsInside; line = l.number; field = 0 })) ends.same ∙ sym (no_line c.args.text.now c.if-text-gt65536.false ends.none))
 
 pub returns-in_err-set : goal.returns-in_err-set
 returns-in_err-set c =
-    answered-err c.from_residual.result _ _ c.from_residual.ensures
-    (set_wrong c.args.text.now _ _ c.if-text-gt65536.false c.in-Some.ensures.cases _ c.in_err-set.ensures)
+    answered-err c.from_residual.result _ _ c.from_residual.ensures (set_wrong _ refl c.if-text-gt65536.false _ _ c.in-Some.ensures.cases _ c.in_err-set.ensures)
 
 pub returns-in_err-recipe : goal.returns-in_err-recipe
 returns-in_err-recipe c =
     answered-err c.from_residual-in_err-recipe.result _ _ c.from_residual-in_err-recipe.ensures
-    (after-set (at-returns-in_err-recipe c).In_ok-set ∙ ap (asked (fields_of c.in-Some.bytes.now)) (sym c.in_err-recipe.ensures))
+    (after-set (at-returns-in_err-recipe c).In_ok-set ∙ ap (asked (fields_in c.in-Some.line)) (sym c.in_err-recipe.ensures))
 
 pub returns : goal.returns
 returns c =
     let sets = c.in_ok-set.ensures.1 in
-    sym (after-set (at-returns c).In_ok-set ∙ ap (asked (fields_of c.in-Some.bytes.now)) (sym c.in_ok-recipe.ensures) ∙ ap Ok (alike_requests (sym sets.shape) (sym sets.span)))
+    sym (after-set (at-returns c).In_ok-set ∙ ap (asked (fields_in c.in-Some.line)) (sym c.in_ok-recipe.ensures) ∙ ap Ok (alike_requests (sym sets.shape) (sym sets.span)))
