@@ -1,9 +1,9 @@
 -- The reading of a text, line by line, as a search for the next line feed finds them.
-use Rattle.std.proofs.Common.{◌≡◌, ℕ, ◌+◌, ◌<◌, ◌≤◌, Bool, true, false, not, ltb, cond, ◌&&◌, eqb, List, [], ◌∷◌, length, take, drop, Some, None, Ok, Err, Result, sym, refl, ap, ◌∙◌, arith}
+use Rattle.std.proofs.Common.{◌≡◌, ℕ, ◌+◌, ◌<◌, ◌≤◌, Bool, true, false, not, ltb, cond, ◌&&◌, eqb, List, [], ◌∷◌, length, take, drop, Some, None, Ok, Err, Option, Result, sym, refl, ap, ◌∙◌, arith}
 use Rattle.std.proofs.lemmas.List.{nil_from_length, length-drop}
 use Rattle.std.proofs.lemmas.List.Splits.{slice_split_first}
 use Rattle.std.specs.List.{onto_first, position, position_or_len, prefix_len}
-use Rattle.std.proofs.lemmas.Bool.{ltb-true, ltb-false, cond-true, cond-false, eq-eqb, ne_eqb}
+use Rattle.std.proofs.lemmas.Bool.{and_from, ltb-true, ltb-false, cond-true, cond-false, eq-eqb, ne_eqb}
 use Rattle.recipe.specs.declared.fault.Cause.TheVariants.{EndsInside}
 use Rattle.recipe.specs.declared.fault.Fault.{Fault}
 use Rattle.recipe.specs.Fields.{cut, heads, final, lines_of, tail_of, fields_of, empty}
@@ -56,51 +56,36 @@ line-none t e =
             let z = ap (λ y. cond (not y) (1 + prefix_len (λ b. not (eqb b 10)) bs) 0) q in
             cond-false _ _ _ q ∙ ap (onto_first b) (more (omega arith))
 
--- a text with a first line
-module _ (t line more : List ℕ) (first : FirstLine t line more) (s : Sofar) (number : ℕ) where
-  split : read_from s number (lines_of t) (tail_of t) ≡ read_from s number (line ∷ lines_of more) (tail_of more)
-  split = ap (λ ls. read_from s number ls (tail_of t)) first.lines ∙ ap (read_from s number (line ∷ lines_of more)) first.tail
+-- lines that are read one after the other
+module _ (s : Sofar) (a : Lines) (l : Line) (b : Lines) (h : NextLine a l b) where
+  split : reading_from s a ≡ read_from s a.number (l.bytes.now ∷ lines_of b.rest.now) (tail_of b.rest.now)
+  split = ap (λ ls. read_from s a.number ls (tail_of a.rest.now)) h.first.lines ∙ ap (read_from s a.number (l.bytes.now ∷ lines_of b.rest.now)) h.first.tail
 
-  read_next : line_fault s number (fields_of line) ≡ None → read_from s number (lines_of t) (tail_of t) ≡ read_from (taken s (fields_of line)) (number + 1) (lines_of more) (tail_of more)
-  read_next e = split ∙ past-line s number line _ _ e
+  here : (o : Option Fault) → line_fault s l.number (fields_in l) ≡ o → line_fault s a.number (fields_in l) ≡ o
+  here o e = ap (λ n. line_fault s n (fields_in l)) (sym h.here) ∙ e
 
-  read_fault : (f : Fault) → line_fault s number (fields_of line) ≡ Some f → read_from s number (lines_of t) (tail_of t) ≡ Err f
-  read_fault f e = split ∙ at-line s number line _ _ f e
+  pub next-kept : line_fault s l.number (fields_in l) ≡ None → reading_from s a ≡ reading_from (taken s (fields_in l)) b
+  next-kept e = split ∙ past-line s a.number _ _ _ (here _ e) ∙ ap (λ n. read_from (taken s (fields_in l)) n (lines_of b.rest.now) (tail_of b.rest.now)) (sym h.next)
 
--- a text without a line feed
-module _ (t : List ℕ) (none : NoLine t) (s : Sofar) (line : ℕ) where
-  ended : read_from s line (lines_of t) (tail_of t) ≡ cond (empty t && eqb s.left 0) (Ok s.stages) (Err (record { cause = EndsInside; line = line; field = 0 }))
+  pub next-broken : (f : Fault) → line_fault s l.number (fields_in l) ≡ Some f → reading_from s a ≡ Err f
+  next-broken f e = split ∙ at-line s a.number _ _ _ f (here _ e)
+
+module _ (s : Sofar) (a b : Lines) (h : LinesEnd a b) where
+  ended : reading_from s a ≡ cond (empty b.rest.now && eqb s.left 0) (Ok s.stages) (Err (record { cause = EndsInside; line = b.number; field = 0 }))
   unfolding read_from
-  ended = ap (λ ls. read_from s line ls (tail_of t)) none.lines ∙ ap (read_from s line []) none.tail
+  ended =
+      ap (λ ls. read_from s a.number ls (tail_of a.rest.now)) h.none.lines ∙ ap (read_from s a.number []) h.none.tail
+      ∙ ap (λ (l : Lines). cond (empty l.rest.now && eqb s.left 0) (Ok s.stages) (Err (record { cause = EndsInside; line = l.number; field = 0 }))) (sym h.same)
 
-  read_done : length t ≡ 0 → s.left ≡ 0 → read_from s line (lines_of t) (tail_of t) ≡ Ok s.stages
-  read_done e z = ended ∙ ap (λ t. cond (empty t && eqb s.left 0) (Ok s.stages) (Err (record { cause = EndsInside; line = line; field = 0 }))) (nil_from_length t e) ∙ cond-true _ _ _ (eq-eqb s.left 0 z)
+  pub end-done : length b.rest.now ≡ 0 → s.left ≡ 0 → reading_from s a ≡ Ok s.stages
+  end-done e z = ended ∙ cond-true _ _ _ (and_from _ _ (ap empty (nil_from_length b.rest.now e)) (eq-eqb s.left 0 z))
 
-  read_short : (length t ≡ 0 → s.left ≡ 0 → ⊥) → read_from s line (lines_of t) (tail_of t) ≡ Err (record { cause = EndsInside; line = line; field = 0 })
-  read_short ne = ended ∙ cond-false _ _ _ (short t ne)
+  pub end-short : (length b.rest.now ≡ 0 → s.left ≡ 0 → ⊥) → reading_from s a ≡ Err (record { cause = EndsInside; line = b.number; field = 0 })
+  end-short ne = ended ∙ cond-false _ _ _ (short b.rest.now ne)
     where
       short : (t : List ℕ) → (length t ≡ 0 → s.left ≡ 0 → ⊥) → (empty t && eqb s.left 0) ≡ false
       short [] ne = ne_eqb s.left 0 (ne refl)
       short (b ∷ bs) ne = refl
-
--- the same for lines that are read one after the other
-module _ (s : Sofar) (a : Lines) (l : Line) (b : Lines) (h : NextLine a l b) where
-  pub next-kept : line_fault s l.number (fields_in l) ≡ None → reading_from s a ≡ reading_from (taken s (fields_in l)) b
-  next-kept e =
-      read_next _ _ _ h.first s a.number (ap (λ n. line_fault s n (fields_in l)) (sym h.here) ∙ e)
-      ∙ ap (λ n. read_from (taken s (fields_in l)) n (lines_of b.rest.now) (tail_of b.rest.now)) (sym h.next)
-
-  pub next-broken : (f : Fault) → line_fault s l.number (fields_in l) ≡ Some f → reading_from s a ≡ Err f
-  next-broken f e = read_fault _ _ _ h.first s a.number f (ap (λ n. line_fault s n (fields_in l)) (sym h.here) ∙ e)
-
-module _ (s : Sofar) (a b : Lines) (h : LinesEnd a b) where
-  pub end-done : length b.rest.now ≡ 0 → s.left ≡ 0 → reading_from s a ≡ Ok s.stages
-  end-done e z = read_done _ h.none s a.number (ap (λ l. length l.rest.now) (sym h.same) ∙ e) z
-
-  pub end-short : (length b.rest.now ≡ 0 → s.left ≡ 0 → ⊥) → reading_from s a ≡ Err (record { cause = EndsInside; line = b.number; field = 0 })
-  end-short ne =
-      read_short _ h.none s a.number (λ e z. ne (ap (λ l. length l.rest.now) h.same ∙ e) z)
-      ∙ ap (λ l. Err (record { cause = EndsInside; line = l.number; field = 0 })) (sym h.same)
 
 -- a fault that is passed on
 pub by_words_err : (o : Result (List Plain) Fault) (r : Result Recipe Fault) (f : Fault) → IsErr r × IsErrAnd r (λ x. x ≡ f) → o ≡ Err f → by_words r ≡ o
