@@ -18,7 +18,6 @@ pub lone_count : (f : Shape) (l : PlainLift) → lone_odd f l ≡ true → count
 lone_count f l h = eqb-true _ _ (and_parts _ _ h).0
 
 module _ (R : ℤ → ℤ → Type 0) (start by : ℕ) (xs : List ℤ) where
-
   module _ (n : ℕ) (ys : List ℤ) (step : 1 ≤ by) (d : Spaced R start by n xs ys) where
     -- the next sample still stands as it did
     pub spaced_old : at ys (start + n * by) ≡ at xs (start + n * by)

@@ -38,7 +38,6 @@ module _ (ys : List ℤ) (i j k : ℕ) (new : Colours) where
         get_or-set_same (set (set ys i new.first) j new.second) k _ (pos 0) (omega arith)
 
 module _ (undo : Bool) (p q r : ℕ) (xs : List ℤ) where
-
   module _ (n t : ℕ) (ys : List ℤ) (one : p + n ≤ q) (two : q + n ≤ r) (three : r + n ≤ length xs) (below : t < n) (so_far : Recoloured undo p q r t xs ys) where
     -- what is read at t stood there from the start
     old_first : at ys (p + t) ≡ at xs (p + t)

@@ -28,7 +28,6 @@ same-quotient q xs ys from shift same =
     (λ k h. get_or-map-range_with_len (λ k. at xs (get_or from k 0 + shift)) 0 q.tap_count k k (pos 0) h (omega arith) ∙ same k h))
 
 module _ (undo : Bool) (r : Row) (xs : List ℤ) where
-
   module _ (i : ℕ) (ys : List ℤ) (below : i < r.count) (d : Rowed undo r i xs ys) where
     rise : (j : ℕ) → j < i → place r j < place r i
     rise j h = omega (arith, places_rise j i r.by r.spaced h)

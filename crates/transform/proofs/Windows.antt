@@ -6,16 +6,18 @@ use Rattle.sets.specs.declared.shape.Shape.{Shape}
 use Rattle.sets.specs.Areas.{size_of}
 use Rattle.stages.specs.declared.stage.Parity.{Parity}
 use Rattle.stages.specs.Lifting.{parity_of}
-use Rattle.stages.specs.Plain.{PlainLift, PlainStep}
+use Rattle.stages.specs.Plain.{PlainLift, PlainStep, plain_lift, plain_step}
 use Rattle.rules.specs.Lifted.{first_of, count_of, touched, lift_pass}
 use Rattle.rules.specs.Passes.{Pass, Blind}
 use Rattle.rules.proofs.LiftPlaces.{touched-index}
 use Rattle.rules.proofs.LiftReads.{lift_blind}
 use Rattle.rules.proofs.Places.{time_below}
 use Rattle.transform.specs.declared.lines.Lines.{Lines}
+use Rattle.transform.specs.declared.turn.Turn.{Turn}
 use Rattle.transform.specs.Lined.{Lined}
 use Rattle.transform.specs.Parts.{part_of, index_at, of_index, between}
 use Rattle.transform.specs.Turned.{Turned}
+use Rattle.transform.specs.Turns.{Sized, Hits, TurnedAt, pass_of, at_position, from_to}
 use Rattle.transform.proofs.Joining.{part_same, part_whole, parts_joined}
 
 -- numbers from i on and below e
@@ -56,7 +58,7 @@ module _ (f : Shape) (l : PlainLift) (m : Parity) (s : PlainStep) where
   hit_parity a t = eqb-true _ _ (and_parts (touched f l (a / f.samples) (a % f.samples)) _ t).1
 
   -- an end that has not the parity of the step may be put off by one
-  pub window_end : (undo : Bool) (i j e : ℕ) (xs ys : List ℤ) → j % 2 ≡ parity_of m → e ≤ j → j ≤ e + 1 → Turned undo (part_of pass (between f l i j)) xs ys → Turned undo (part_of pass (between f l i e)) xs ys
+  window_end : (undo : Bool) (i j e : ℕ) (xs ys : List ℤ) → j % 2 ≡ parity_of m → e ≤ j → j ≤ e + 1 → Turned undo (part_of pass (between f l i j)) xs ys → Turned undo (part_of pass (between f l i e)) xs ys
   window_end undo i j e xs ys q low high d = part_same undo pass _ _ xs ys (λ a h t. same (index_at f l a) (hit_parity a t)) d
     where
       same : (x : ℕ) → x % 2 ≡ parity_of m → within i j x ≡ within i e x
@@ -71,7 +73,7 @@ module _ (f : Shape) (l : PlainLift) (m : Parity) (s : PlainStep) where
       and_from _ _ (le-leb i (index_at f l a) (omega (arith, index.from, hit_parity a t))) (lt-ltb (index_at f l a) _ index.until)) d
 
   -- from the first position of the parity on, as the code counts them
-  pub window_lines : (n : Lines) (p : ℕ) (undo : Bool) (xs ys : List ℤ) → Lined f l n → length xs ≡ size_of f → p ≡ parity_of m → p ≤ 1 →
+  window_lines : (n : Lines) (p : ℕ) (undo : Bool) (xs ys : List ℤ) → Lined f l n → length xs ≡ size_of f → p ≡ parity_of m → p ≤ 1 →
       Turned undo (part_of pass (between f l (n.first + (n.first + p) % 2) (n.first + n.count))) xs ys → Turned undo pass xs ys
   window_lines n p undo xs ys lined long e small d =
       let end : n.first + n.count ≡ first_of f l + count_of f l = λ i. lined.first i + lined.count i in
@@ -87,12 +89,36 @@ module _ (f : Shape) (l : PlainLift) (m : Parity) (s : PlainStep) where
         (λ a t. j.apart (index_at f l a) (ok a t)) (λ a t. j.left (index_at f l a) (ok a t)) (λ a t. j.right (index_at f l a) (ok a t)) (λ a h t. j.whole (index_at f l a) (ok a t)) d e
 
     -- one index more, which is that of the next position of the parity
-    pub window_more : (i j k : ℕ) → i ≤ j → k ≡ j + 2 → j % 2 ≡ parity_of m →
+    window_more : (i j k : ℕ) → i ≤ j → k ≡ j + 2 → j % 2 ≡ parity_of m →
         Turned undo (part_of pass (between f l i j)) xs ys → Turned undo (part_of pass (of_index f l j)) ys zs → Turned undo (part_of pass (between f l i k)) xs zs
     window_more i j k h n q d e =
         subst (λ x. Turned undo (part_of pass (between f l i x)) xs zs) (sym n)
         (windows_joined (within i j) (λ x. eqb x j) (within i (j + 2)) (Alike j) (λ x p. p ∙ sym q) (one_more i j h) d e)
 
-    pub window_joined : (i j e : ℕ) → i ≤ j → j ≤ e →
+    window_joined : (i j e : ℕ) → i ≤ j → j ≤ e →
         Turned undo (part_of pass (between f l i j)) xs ys → Turned undo (part_of pass (between f l j e)) ys zs → Turned undo (part_of pass (between f l i e)) xs zs
     window_joined i j e h g d b = windows_joined (within i j) (within j e) (within i e) (λ x. Unit {0}) (λ x p. tt) (runs_joined i j e h g _) d b
+
+-- the same of a step that is carried out, by positions
+module _ (undo : Bool) (t : Turn) (xs ys zs : List ℤ) (long : Sized t xs) where
+  many : 2 ≤ count_of t.on.lifting.shape (plain_lift t.on.lifting.lift)
+  many = subst (λ n. 2 ≤ n) t.on.lined.count t.on.many
+
+  pub positions_more : (i j : ℕ) → i ≤ j → Hits t j → TurnedAt undo t (from_to t i j) xs ys → TurnedAt undo t (at_position t j) ys zs → TurnedAt undo t (from_to t i (j + 2)) xs zs
+  positions_more i j h q d e =
+      window_more t.on.lifting.shape (plain_lift t.on.lifting.lift) t.parity (plain_step t.step) t.on.lifting.room many undo xs ys zs long (t.on.lines.first + i) (t.on.lines.first + j) (t.on.lines.first + (j + 2))
+      (omega arith) (omega arith) q d e
+
+  pub positions_joined : (i j e : ℕ) → i ≤ j → j ≤ e → TurnedAt undo t (from_to t i j) xs ys → TurnedAt undo t (from_to t j e) ys zs → TurnedAt undo t (from_to t i e) xs zs
+  positions_joined i j e h g d b =
+      window_joined t.on.lifting.shape (plain_lift t.on.lifting.lift) t.parity (plain_step t.step) t.on.lifting.room many undo xs ys zs long (t.on.lines.first + i) (t.on.lines.first + j) (t.on.lines.first + e)
+      (omega arith) (omega arith) d b
+
+-- an end that has not the parity of the step may be put off by one
+pub positions_end : (undo : Bool) (t : Turn) (xs ys : List ℤ) (i j e : ℕ) → Hits t j → e ≤ j → j ≤ e + 1 → TurnedAt undo t (from_to t i j) xs ys → TurnedAt undo t (from_to t i e) xs ys
+positions_end undo t xs ys i j e q low high d =
+    window_end t.on.lifting.shape (plain_lift t.on.lifting.lift) t.parity (plain_step t.step) undo (t.on.lines.first + i) (t.on.lines.first + j) (t.on.lines.first + e) xs ys q (omega arith) (omega arith) d
+
+-- all positions, from the first of the parity on
+pub positions_all : (undo : Bool) (t : Turn) (p : ℕ) (xs ys : List ℤ) → Sized t xs → p ≡ parity_of t.parity → p ≤ 1 → TurnedAt undo t (from_to t ((t.on.lines.first + p) % 2) t.on.lines.count) xs ys → Turned undo (pass_of t) xs ys
+positions_all undo t p xs ys long e small d = window_lines t.on.lifting.shape (plain_lift t.on.lifting.lift) t.parity (plain_step t.step) t.on.lines p undo xs ys t.on.lined long e small d
