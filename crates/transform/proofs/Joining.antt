@@ -1,5 +1,5 @@
 -- Parts of a pass that is blind to what it changes: carried out one after another they are their union.
-use Rattle.std.proofs.Common.{◌≡◌, ℕ, ◌<◌, Bool, true, false, ◌&&◌, List, length, ℤ, pos, sym, refl, ap, ◌∙◌, subst, ⊎_elim, arith, w32, SFits}
+use Rattle.std.proofs.Common.{◌≡◌, ℕ, ◌<◌, Bool, true, false, ◌&&◌, List, length, ℤ, pos, sym, refl, ◌∙◌, subst, ⊎_elim, arith, w32, SFits}
 use Rattle.std.specs.Int.{int_wrap}
 use Rattle.std.proofs.lemmas.List.{get_or_past}
 use Rattle.std.proofs.lemmas.Bool.{cases_Bool, cases_lt, both_ways, and_parts, and_from, and_left, and_right}
@@ -27,8 +27,7 @@ part_whole undo p w xs ys on d = record {
 -- two parts that share what the pass changes
 pub part_same : (undo : Bool) (p : Pass) (v w : ℕ → Bool) (xs ys : List ℤ) → ((a : ℕ) → a < length xs → p.hits a ≡ true → v a ≡ w a) → Turned undo (part_of p v) xs ys → Turned undo (part_of p w) xs ys
 part_same undo p v w xs ys same d =
-    let alike : (a : ℕ) → a < length xs → (p.hits a && v a) ≡ (p.hits a && w a) = λ a h.
-    ⊎_elim (λ t. ap (λ x. p.hits a && x) (same a h t)) (λ t. and_left _ _ t ∙ sym (and_left _ _ t)) (cases_Bool (p.hits a)) in
+    let alike : (a : ℕ) → a < length xs → (p.hits a && v a) ≡ (p.hits a && w a) = λ a h. grind (arith, same a h) in
     record {
       long = d.long;
       hit = λ a h t. d.hit a h (alike a h ∙ t);
@@ -64,13 +63,7 @@ module _ (undo : Bool) (p : Pass) (v w u : ℕ → Bool) (xs ys zs : List ℤ) (
       (subst (SFits w32) same r.0, r.1 ∙ (λ j. int_wrap w32 (turned_by undo (same j) (amount j))))
 
   kept_both : (a : ℕ) → (p.hits a && u a) ≡ false → at zs a ≡ at xs a
-  kept_both a n =
-      let off : (x : Bool) → (p.hits a ≡ true → x ≡ true → u a ≡ true) → (p.hits a && x) ≡ false = λ x to.
-      ⊎_elim
-      (λ t. ⊎_elim (λ i. absurd (both_ways _ n (and_from (p.hits a) (u a) t (to t i)))) (λ i. and_right (p.hits a) x i) (cases_Bool x))
-      (λ t. and_left (p.hits a) x t)
-      (cases_Bool (p.hits a)) in
-      e.kept a (off (w a) (of-w a)) ∙ d.kept a (off (v a) (of-v a))
+  kept_both a n = e.kept a (grind (arith, of-w a)) ∙ d.kept a (grind (arith, of-v a))
 
   pub parts_joined : Turned undo (part_of p u) xs zs
   parts_joined = record {

@@ -1,6 +1,5 @@
 -- The bounds of a list of spans are signed 32-bit numbers.
-use Rattle.std.proofs.Common.{◌≡◌, ℕ, suc, ◌<◌, true, List, [], ◌∷◌, length, get_or, ℤ, pos, negsuc, ◌≤ℤ◌, sym, refl, subst, arith}
-use Rattle.std.specs.Int.Signed.{le_z}
+use Rattle.std.proofs.Common.{◌≡◌, ℕ, suc, ◌<◌, true, List, [], ◌∷◌, length, get_or, pos, negsuc, ◌≤ℤ◌, sym, refl, subst, arith}
 use Rattle.std.proofs.lemmas.List.{get_or-take, length-take}
 use Rattle.std.proofs.lemmas.Int.{ints}
 use Rattle.std.proofs.lemmas.Bool.{and_from}
@@ -11,13 +10,7 @@ use Rattle.sets.specs.Sets.{rows_of}
 use Rattle.stages.specs.Ranges.{fits, all_fit, at}
 
 between-fits : (b : Bounds) → b.least ≤ℤ b.greatest → negsuc 2147483647 ≤ℤ b.least → b.greatest ≤ℤ pos 2147483647 → fits b ≡ true
-between-fits b ordered low high =
-    let top : b.least ≤ℤ pos 2147483647 = omega (arith, ints) in
-    let bottom : negsuc 2147483647 ≤ℤ b.greatest = omega (arith, ints) in
-    and_from _ _ (and_from _ _ (le_le_z _ _ low) (le_le_z _ _ top)) (and_from _ _ (le_le_z _ _ bottom) (le_le_z _ _ high))
-  where
-    le_le_z : (x y : ℤ) → x ≤ℤ y → le_z x y ≡ true
-    le_le_z x y h = grind (arith, ints)
+between-fits b ordered low high = grind (arith, ints)
 
 each_fits : (bs : List Bounds) → ((c : ℕ) → c < length bs → fits (at bs c) ≡ true) → all_fit bs ≡ true
 each_fits [] h = refl

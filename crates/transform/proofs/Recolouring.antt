@@ -1,8 +1,9 @@
 -- The colour transform in wrapping arithmetic is exact on sets within spans that are not too wide, forth and back.
-use Rattle.std.proofs.Common.{◌≡◌, ℕ, ◌+◌, ◌*◌, ◌/◌, ◌<◌, ◌≤◌, Bool, true, false, List, length, ℤ, pos, ◌+ℤ◌, ◌*ℤ◌, sym, refl, ap, ◌∙◌, subst, ⊎_elim, arith}
+use Rattle.std.proofs.Common.{◌≡◌, ℕ, ◌+◌, ◌*◌, ◌/◌, ◌<◌, ◌≤◌, Bool, true, false, List, length, ℤ, pos, ◌+ℤ◌, ◌*ℤ◌, sym, ap, ◌∙◌, subst, ⊎_elim, arith}
 use Rattle.std.proofs.lemmas.Nat.{div-mul-add}
 use Rattle.std.proofs.lemmas.Int.{ints}
-use Rattle.std.proofs.lemmas.Bool.{cond-true, cond-false, eq-eqb, ne_eqb, cases_eq, and_parts}
+use Rattle.std.proofs.lemmas.Bool.Decides.{nat_tests}
+use Rattle.std.proofs.lemmas.Bool.{cases_eq, and_parts}
 use Rattle.sets.specs.declared.bounds.Bounds.{Bounds}
 use Rattle.sets.specs.declared.shape.Shape.{Shape}
 use Rattle.sets.specs.Areas.{size_of, sample_at, In, Within}
@@ -45,13 +46,10 @@ module _ (f : Shape) (first : ℕ) where
 
   module _ (xs : List ℤ) (t : ℕ) where
     rct_three : colours (rct_at f first xs first t) (rct_at f first xs (first + 1) t) (rct_at f first xs (first + 2) t) ≡ exact_at xs t
-    rct_three = same-colours _ _ _ _ _ _
-        (cond-true _ _ _ (eq-eqb first first refl))
-        (cond-false _ _ _ (ne_eqb (first + 1) first (λ q. omega arith)) ∙ cond-true _ _ _ (eq-eqb (first + 1) (first + 1) refl))
-        (cond-false _ _ _ (ne_eqb (first + 2) first (λ q. omega arith)) ∙ cond-false _ _ _ (ne_eqb (first + 2) (first + 1) (λ q. omega arith)) ∙ cond-true _ _ _ (eq-eqb (first + 2) (first + 2) refl))
+    rct_three = same-colours _ _ _ _ _ _ (grind (arith, nat_tests)) (grind (arith, nat_tests)) (grind (arith, nat_tests))
 
     rct_other : (c : ℕ) → Other c → rct_at f first xs c t ≡ sample_at f xs c t
-    rct_other c o = cond-false _ _ _ (ne_eqb c first o.0) ∙ cond-false _ _ _ (ne_eqb c (first + 1) o.1) ∙ cond-false _ _ _ (ne_eqb c (first + 2) o.2)
+    rct_other c o = grind (arith, nat_tests)
 
   -- two samples at one address are of one channel
   same-channel : (c d t s : ℕ) → t < f.samples → s < f.samples → c * f.samples + t ≡ d * f.samples + s → c ≡ d

@@ -1,6 +1,7 @@
 -- Three channels recoloured one instant after the other.
-use Rattle.std.proofs.Common.{◌≡◌, ℕ, ◌+◌, ◌<◌, ◌≤◌, Bool, ◌≢◌, List, length, set, ℤ, pos, ap, ◌∙◌, subst, arith, w32, SFits, below_more}
-use Rattle.std.proofs.lemmas.List.{length-set, get_or-set_same, get_or-set_other}
+use Rattle.std.proofs.Common.{◌≡◌, ℕ, ◌+◌, ◌<◌, ◌≤◌, Bool, ◌≢◌, List, length, set, ℤ, ap, ◌∙◌, subst, arith, w32, SFits, below_more}
+use Rattle.std.proofs.lemmas.Grind.{common_steps}
+use Rattle.std.proofs.lemmas.List.{length-set}
 use Rattle.sets.specs.Areas.{at}
 use Rattle.transform.specs.declared.rct.Colours.{Colours}
 use Rattle.transform.specs.Colours.{recoloured, coloured_at, Recoloured}
@@ -17,25 +18,20 @@ module _ (ys : List ℤ) (i j k : ℕ) (new : Colours) where
   written = set (set (set ys i new.first) j new.second) k new.third
 
   length-written : length written ≡ length ys
-  length-written = length-set _ k _ ∙ length-set _ j _ ∙ length-set ys i _
+  length-written = simp length-set
 
   kept_written : (a : ℕ) → a ≢ i → a ≢ j → a ≢ k → at written a ≡ at ys a
-  kept_written a h l m = get_or-set_other _ k a _ (pos 0) m ∙ get_or-set_other _ j a _ (pos 0) l ∙ get_or-set_other ys i a _ (pos 0) h
+  kept_written a h l m = grind (arith, common_steps)
 
   module _ (below-j : i < j) (below-k : j < k) (inside : k < length ys) where
     first_written : at written i ≡ new.first
-    first_written =
-        get_or-set_other _ k i _ (pos 0) (λ e. omega arith) ∙ get_or-set_other _ j i _ (pos 0) (λ e. omega arith) ∙ get_or-set_same ys i _ (pos 0) (omega arith)
+    first_written = grind (arith, common_steps)
 
     second_written : at written j ≡ new.second
-    second_written =
-        let long = length-set ys i new.first in
-        get_or-set_other _ k j _ (pos 0) (λ e. omega arith) ∙ get_or-set_same (set ys i new.first) j _ (pos 0) (omega arith)
+    second_written = grind (arith, common_steps)
 
     third_written : at written k ≡ new.third
-    third_written =
-        let long : length (set (set ys i new.first) j new.second) ≡ length ys = length-set _ j _ ∙ length-set ys i _ in
-        get_or-set_same (set (set ys i new.first) j new.second) k _ (pos 0) (omega arith)
+    third_written = grind (arith, common_steps)
 
 module _ (undo : Bool) (p q r : ℕ) (xs : List ℤ) where
   module _ (n t : ℕ) (ys : List ℤ) (one : p + n ≤ q) (two : q + n ≤ r) (three : r + n ≤ length xs) (below : t < n) (so_far : Recoloured undo p q r t xs ys) where
