@@ -1,4 +1,3 @@
-pub mod Handed
 pub mod Letters
 pub mod Values
 pub mod Faults

@@ -1,16 +1,10 @@
 ghost use Rattle.std.specs.Prelude.{◌≡◌, length};
 ghost use Rattle.stages.specs.Worked.{table, Worked};
 
-// Every worked sample has the spans that it says.
-fn each_holds()
-    ensures { Worked }
-{}
-
 // How many worked samples of the rule on spans there are, each of which holds.
 pub fn worked_samples() -> usize
     ensures rows { result ≡ length table }
     ensures hold { Worked }
 {
-    each_holds();
     8
 }
