@@ -5,7 +5,8 @@ usage: tools/places.py [-v] [COMMIT]
 
 Reads the files below crates/*/src in the working tree, or as they are at COMMIT. One line for each kind of place: the
 point of docs/DESIGN-PASS.md, how many places there are, and what was looked for; with -v each place below it. It looks at
-text: a place is one to read, and not yet one to change.
+text: a place is one to read, and not yet one to change. Twins it does not find. A cast is not looked for: it is the
+language's own conversion, and proved to lose nothing.
 """
 import collections
 import glob
@@ -18,17 +19,16 @@ PATTERNS = [
     (1, "an error or a None handed on by hand", r"return Err\((?:e|refusal|fault)\);|Err\((?:e|refusal)\) => Err\((?:e|refusal)\)|else \{\s*return None;\s*\}"),
     (1, "a flag as the answer of a function that writes", r"fn \w+[^{;]*&mut (?!W\b|impl|f\b)[^{;]*-> (?:anyhow::Result<)?bool"),
     (1, "a flag that says which kind", r"\b\w+: bool\b|Result<bool, "),
-    (1, "a number in place of a refusal or a cause", r"\bnumber: u8\b|-> u8\b|\.number\(\) \{"),
+    (1, "a number in place of a refusal or a cause", r"\bnumber: u8\b|-> u8\b|refusal\.number\(\)|cause\.number\(\)"),
     (1, "an index that says none by the length", r"if end == \w+(?:\.\w+)?\.len\(\)"),
     (3, "a loop that counts by hand", r"\+= [12];\n|\bwhile\b|\bloop \{"),
-    (3, "a range of indices", r"for \w+ in [^.{]*\.\.[^{]*\{"),
+    (3, "a `for` over a range of numbers", r"for \w+ in [^.{]*\.\.[^{]*\{"),
     (3, "a recursion over an index", r"\b(\w+)\([^()]*\b[ki] [+-] 1[,)]"),
-    (4, "a cast", r"\bas (?:u8|u16|u32|u64|usize|i16|i32|i64)\b"),
     (4, "bounds or a span copied field by field", r"least: \w+\.least"),
     (4, "a conversion or a printer as a function", r"fn (?:number|axis|extension|parity|number_of|write_spans|write_answer|accepted)\b"),
     (6, "a buffer with a length beside", r"\w+: \[[^\];]+; \d+\],"),
-    (7, "a type that only carries what one function of a trait reads", r"impl Rule for \w+"),
-    (7, "a switch on a stage's kind or on a number of taps", r"match \*self \{\s*Stage::|match \*stage \{|match quotient\.tap_count"),
+    (7, "a type that only carries what one function of a trait reads", r"impl Rule for \w+|trait Rule\b"),
+    (7, "a switch on a stage's kind or on a number of taps", r"match \*self \{\s*Stage::|match (?:\*stage|stage|last|self) \{\s*Stage::|match \w+(?:\.\w+)*\.tap_count"),
     (7, "a switch on the word of a line", r'match word \{'),
 ]
 

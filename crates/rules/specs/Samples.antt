@@ -5,20 +5,15 @@ use Rattle.sets.specs.declared.shape.Shape.{Shape}
 use Rattle.sets.specs.Areas.{size_of, Within}
 use Rattle.stages.specs.Plain.{Plain, lift, dep, rct}
 use Rattle.stages.specs.Ranges.{all_fit}
-use Rattle.stages.specs.Stages.{end_of, fits_in, spans_after, bounds_made}
+use Rattle.stages.specs.Stages.{first_of, end_of, fits_in, spans_after, bounds_made}
 use Rattle.rack.specs.Meanings.{Meaning}
 use Rattle.rack.specs.Laws.{SameSpans, SameSamples}
 use Rattle.rules.specs.Lifted.{lift_samples}
 use Rattle.rules.specs.Mixed.{rct_samples, dep_samples}
 
 -- the channels of a stage, from its first one on
-abbrev pub start_of : Plain → ℕ
-start_of (lift l ss) = l.first
-start_of (dep first rows) = first
-start_of (rct first) = first
-
 abbrev pub lists : Plain → ℕ → Bool
-lists s c = nat_le (start_of s) c && nat_lt c (end_of s)
+lists s c = nat_le (first_of s) c && nat_lt c (end_of s)
 
 -- the samples after the stage
 abbrev pub samples_after : Shape → Plain → List ℤ → List ℤ

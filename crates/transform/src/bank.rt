@@ -1,6 +1,5 @@
 ghost use Rattle.std.specs.Prelude.{◌≡◌};
-ghost use Rattle.rules.specs.Samples.{bank, start_of};
-ghost use Rattle.stages.specs.Plain.{plain};
+ghost use Rattle.rules.specs.Samples.{bank};
 ghost use Rattle.rules.proofs.EveryKind.{every-bank-lawful};
 
 use crate::work::Work;
@@ -8,25 +7,12 @@ use rack::rack::Rack;
 use rack::stages::Stages;
 use sets::shape::Shape;
 use sets::span_list::SpanList;
-use stages::stage::Stage;
 use stages::table::Table;
 
 // A bank: the rack of the stages that a table holds.
 #[derive(Clone, Copy)]
 pub struct Bank<T> {
     pub table: T,
-}
-
-// The first channel of a stage.
-#[tactic(auto, unfolding(stages::specs::Plain::plain))]
-fn start(stage: &Stage) -> usize
-    ensures { result ≡ start_of (plain stage.now) }
-{
-    match *stage {
-        Stage::Lift(lift) => lift.first,
-        Stage::Dep(dep) => dep.first,
-        Stage::Rct(rct) => rct.first,
-    }
 }
 
 impl<T: Table> Stages for Bank<T> {
@@ -57,7 +43,7 @@ impl<T: Table> Stages for Bank<T> {
     fn lists(&self, shape: &Shape, number: usize, channel: usize) -> bool {
         let stage = self.table.stage(shape.channels, number);
         // the stage's channels end where it begins to fit
-        start(&stage) <= channel && !stage.fits_in(channel)
+        stage.first() <= channel && !stage.fits_in(channel)
     }
 
     #[tactic(auto, using(crate::proofs::Widening::only_width))]

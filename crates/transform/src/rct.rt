@@ -1,4 +1,4 @@
-ghost use Rattle.std.specs.Prelude.{◌≡◌, ◌+◌, ◌≤◌, true, length, pos, ◌+ℤ◌, ◌-ℤ◌, ◌*ℤ◌};
+ghost use Rattle.std.specs.Prelude.{◌≡◌, ◌+◌, ◌≤◌, true, length, ◌+ℤ◌, ◌-ℤ◌};
 ghost use Rattle.std.specs.Int.{int_wrap, w32};
 ghost use Rattle.sets.specs.Areas.{size_of};
 ghost use Rattle.sets.specs.Sets.{in_limits};
@@ -7,6 +7,7 @@ ghost use Rattle.transform.specs.Colours.{recoloured, Recoloured, RctTurned};
 
 use crate::low_bits::low_bits;
 use sets::shape::Shape;
+use stages::colour::{luma, quarter};
 use stages::stage::Rct;
 
 // One sample of each of three channels. Not an array: a number for each channel says less than its name.
@@ -15,22 +16,6 @@ struct Colours {
     first: i32,
     second: i32,
     third: i32,
-}
-
-// The floor of a quarter.
-#[tactic(auto, unfolding(stages::specs::Floors::floor_over))]
-fn quarter(sum: i64) -> i64
-    ensures { result ≡ floor_over sum 2 }
-{
-    sum >> 2
-}
-
-// The floor of a quarter of a + 2b + c.
-fn luma(a: i32, b: i32, c: i32) -> i32
-    ensures { result ≡ int_wrap w32 (floor_over (a +ℤ (pos 2 *ℤ b +ℤ c)) 2) }
-{
-    let sum = 2 * b as i64 + c as i64;
-    low_bits(quarter(a as i64 + sum))
 }
 
 // The second sample again, from the luma and the two differences.
@@ -52,7 +37,7 @@ fn recolour<const UNDO: bool>(a: i32, b: i32, c: i32) -> Colours
         }
     } else {
         Colours {
-            first: luma(a, b, c),
+            first: low_bits(luma(a, b, c)),
             second: c.wrapping_sub(b),
             third: a.wrapping_sub(b),
         }

@@ -1,4 +1,4 @@
-use Rattle.std.proofs.Common.{◌≡◌, true, false, not, eqb, ◌+ℤ◌, sym, ap, ◌∙◌, w32, SFits, rules}
+use Rattle.std.proofs.Common.{◌≡◌, true, false, not, eqb, ◌+ℤ◌, sym, ap, ◌∙◌, w32, w64, SFits, rules}
 use Rattle.std.specs.Int.{int_wrap}
 use Rattle.std.proofs.lemmas.Int.{to_z-of_z, wrapping_add_is, wrapping_sub_is}
 use Rattle.std.proofs.lemmas.Bool.{eq-eqb, ne_eqb, not_from_true, not_from_false}
@@ -31,10 +31,11 @@ returns-else-this-ne0 g c =
     let fa = c.ranges.a in
     let fb = c.ranges.b in
     let fd = c.ranges.c in
-    let l : SFits w32 c.luma.result = search rules in
+    let l : SFits w32 c.low_bits.result = search rules in
+    let wide : SFits w64 c.luma.result = search rules in
     let flag : not (eqb g.row.UNDO 0) ≡ false = not_from_true _ (eq-eqb _ _ c.if-this-ne0.false) in
     same-colours _ _ _ _ _ _
-    (to_z-of_z w32 _ l ∙ simp to_z-of_z at c.luma.ensures)
+    (to_z-of_z w32 _ l ∙ c.low_bits.ensures ∙ ap (int_wrap w32) (to_z-of_z w64 _ wide ∙ simp to_z-of_z at c.luma.ensures))
     (wrapping_sub_is w32 d b fd fb)
     (wrapping_sub_is w32 a b fa fb)
     ∙ ap (λ u. recoloured u a b d) (sym flag)
