@@ -52,7 +52,7 @@ pub trait Stages {
         ensures { area.new ≡ transformed self.now shape.now number area.old };
 
     // Turns an area back into the set within the spans that the stage makes it of. False where there is none: then
-    // the area holds anything.
+    // the area holds anything. A flag is the whole answer, since the area is the caller's.
     fn backward(&self, shape: &Shape, number: usize, spans: &SpanList, area: &mut [i32]) -> bool
         requires admitted { Admitted (meant_at stages fits listed widened transformed self.now) shape.now number (rows_of spans.now) }
         requires long { length area.old ≡ size_of shape.now }
