@@ -1,14 +1,23 @@
-ghost use Rattle.std.specs.Prelude.{◌≡◌};
+ghost use Rattle.std.specs.Prelude.{◌≡◌, ◌^◌, ◌≤◌};
 ghost use Rattle.stages.specs.Lines.{first_index, index_count};
 
 use crate::stage::Lift;
 
 impl Lift {
+    // How many places two indices of a line are apart.
+    pub fn distance(&self) -> usize
+        ensures value { result ≡ 2 ^ self.now.level }
+        ensures some { 1 ≤ result }
+        ensures small { result ≤ 32768 }
+    {
+        1 << self.level
+    }
+
     // The first index of a line that begins at a place.
     pub fn first_index(&self, place: u32) -> usize
         ensures { result ≡ first_index self.now.level place }
     {
-        let step = 1usize << self.level;
+        let step = self.distance();
         (place as usize + (step - 1)) / step
     }
 

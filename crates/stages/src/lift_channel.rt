@@ -25,7 +25,7 @@ impl Lift {
     {
         listed(
             self.line_length(),
-            |i| row_at(spans, self.first + i * (1 << self.level)),
+            |i| row_at(spans, self.first + i * self.distance()),
         )
     }
 
@@ -49,7 +49,7 @@ impl Lift {
     fn index_of(&self, channel: usize) -> Option<usize>
         ensures { result ≡ (if on_line (plain_lift self.now) channel then Some (index_of (plain_lift self.now) channel) else None) }
     {
-        let step = 1usize << self.level;
+        let step = self.distance();
         if self.lists(channel) && (channel - self.first) % step == 0 {
             Some((channel - self.first) / step)
         } else {
