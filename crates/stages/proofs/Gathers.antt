@@ -34,6 +34,10 @@ module _ (returned : ℕ → Span → Type 0) where
   pub listed_all : (n k : ℕ) (l : SpanList) → n ≤ k → k ≤ n → Listed returned k l → Listed returned n l
   listed_all n k l h g r = let e : k ≡ n = omega arith in subst (λ x. Listed returned x l) e r
 
+  -- what each call returned, said in another way
+  pub listed_as : (other : ℕ → Span → Type 0) (n : ℕ) (l : SpanList) → Listed returned n l → ((i : ℕ) → i < n → (s : Span) → returned i s → other i s) → Listed other n l
+  listed_as other n l h known = record { count = h.count; rows = λ i k. let row = h.rows i k in (row.0, known i k row.0 row.1, row.2) }
+
   -- the rows, where it is known what each call returns
   pub listed_rows : (n : ℕ) (l : SpanList) → Listed returned n l → (after : ℕ → Bounds) → ((i : ℕ) → i < n → (s : Span) → returned i s → bounds_of s ≡ after i) → (m : ℕ) → n ≡ m → rows_of l ≡ map after (range_with_len 0 m)
   listed_rows n l h after known m e = fill_by_all after (rows_of l) n no_bounds h.count (λ i k. let row = h.rows i k in row.2 ∙ known i k row.0 row.1) ∙ ap (λ k. map after (range_with_len 0 k)) e

@@ -19,16 +19,17 @@ pub(crate) fn gathered<F: Fn(usize) -> Option<Span>>(count: usize, row: F) -> Op
     Some(rows)
 }
 
-// The same where each can be made: a loop of its own, so that no caller has a None to rule out.
-#[tactic(auto, using(crate::proofs::Gathers::listed_none, crate::proofs::Gathers::listed_all))]
+// The same where each can be made.
 pub(crate) fn listed<F: Fn(usize) -> Span>(count: usize, row: F) -> SpanList
     requires room { count ≤ 64 }
     requires callable { (i : ℕ) → i < count → F.pre row i }
     ensures { Listed (F.post row) count result }
 {
-    let mut rows = SpanList::new();
-    for i in 0..count {
-        let _ = rows.push(row(i));
-    }
+    let always = |i: usize| -> Option<Span>
+        requires { F.pre row i }
+    { Some(row(i)) };
+    let Some(rows) = gathered(count, always) else {
+        unreachable()
+    };
     rows
 }

@@ -18,6 +18,7 @@ fn two(a: Span, b: Span) -> SpanList
     ensures { rows_of result ≡ bounds_of a ∷ bounds_of b ∷ [] }
 {
     let mut list = SpanList::new();
+    // there is room
     let _ = list.push(a);
     let _ = list.push(b);
     list

@@ -1,6 +1,6 @@
-use Rattle.std.proofs.Common.{arith}
-use Rattle.stages.proofs.Gathers.{listed_more}
+use Rattle.std.proofs.Common.{rules}
+use Rattle.stages.proofs.Gathers.{listed_as}
 use Rattle.stages.proofs.gather.listed.Goals as goal
 
-pub loop-i-preserved : goal.loop-i-preserved
-loop-i-preserved g c = listed_more _ _ _ _ _ _ (omega arith) c.loop-i.invariant c.row.ensures c.push.ensures.answer c.push.ensures.rows
+pub returns : goal.returns
+returns g c = listed_as _ _ _ _ c.in-Some.ensures.outcome (λ i h s r. search rules)
