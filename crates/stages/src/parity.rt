@@ -8,10 +8,7 @@ impl Parity {
         ensures value { result ≡ parity_of self }
         ensures small { result ≤ 1 }
     {
-        match self {
-            Parity::Even => 0,
-            Parity::Odd => 1,
-        }
+        self as usize
     }
 
     pub fn other(self) -> Parity

@@ -19,8 +19,8 @@ pub enum Extension {
 // The indices that a step changes.
 #[derive(Clone, Copy)]
 pub enum Parity {
-    Even,
-    Odd,
+    Even = 0,
+    Odd = 1,
 }
 
 // One step of a lifting: it adds its quotient to each index of one parity, reading the other from `offset` on.
