@@ -16,6 +16,7 @@ impl Lift {
         ensures value { result ≡ line_length (plain_lift self.now) }
         ensures small { result ≤ 64 }
     {
+        // Casts lose nothing, as the check proves: a `try_from` would have a failure to answer that cannot come.
         self.index_count(0, self.count as u32)
     }
 

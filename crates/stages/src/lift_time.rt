@@ -30,6 +30,7 @@ impl Lift {
         ensures { LiftMakes result (channel_made set.now.shape) (channel_ends set.now.shape) self.now (bounds_of span.now) }
     {
         let pair = two(*span, *span);
+        // Casts lose nothing, as the check proves: a `try_from` would have a failure to answer that cannot come.
         match self.indexed(set.shape.origin as u32, set.shape.samples as u32) {
             Indexed::Many => Line::Parities.walk(&pair, self),
             Indexed::LoneOdd => Some(two(raise(span, &Reach::from(*span))?, *span)),

@@ -26,6 +26,7 @@ impl Indices {
         ensures is { MirroredTo self.now.count index result }
         ensures value { result ≡ mirror self.now.count index }
     {
+        // Casts lose nothing, as the check proves: a `try_from` would have a failure to answer that cannot come.
         let far = index.unsigned_abs() as usize;
         if far < self.count {
             // most indices are inside, and need no division

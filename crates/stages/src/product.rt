@@ -11,6 +11,7 @@ pub fn product(a: i16, b: i32) -> i64
     ensures low { neg_ℤ (pos (2 ^ 46)) ≤ℤ result }
     ensures high { result ≤ℤ pos (2 ^ 46) }
 {
+    // Widened by `as`: tried `i64::from`, and the proof didn't close at the product.
     a as i64 * b as i64
 }
 

@@ -22,8 +22,8 @@ impl From<Span> for Reach {
 
     fn from(span: Span) -> Reach {
         Reach {
-            least: span.least as i64,
-            greatest: span.greatest as i64,
+            least: i64::from(span.least),
+            greatest: i64::from(span.greatest),
         }
     }
 }

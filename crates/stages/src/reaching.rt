@@ -16,8 +16,8 @@ impl Quotient {
         ensures least { result.least ≡ least_sum (taps_of self.now) (rows_of sources.now) +ℤ self.now.residue }
         ensures greatest { result.greatest ≡ greatest_sum (taps_of self.now) (rows_of sources.now) +ℤ self.now.residue }
     {
-        let mut least = self.residue as i64;
-        let mut greatest = self.residue as i64;
+        let mut least = i64::from(self.residue);
+        let mut greatest = i64::from(self.residue);
         for (k, tap) in self.taps().iter().enumerate() {
             let part = weighed(*tap, &row_at(sources, k));
             least += part.least;

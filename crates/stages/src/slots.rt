@@ -23,6 +23,7 @@ impl Line {
             return Some(span);
         }
         let read = listed(step.quotient.taps().len(), |tap| {
+            // Casts lose nothing, as the check proves: a `try_from` would have a failure to answer that cannot come.
             let index = step.source_index(parity, slot as u32, tap as u32);
             row_at(slots, self.slot(index))
         });
