@@ -13,7 +13,7 @@ impl Lift {
     pub(crate) fn lists(&self, channel: usize) -> bool
         ensures { result ≡ lists_channel (plain_lift self.now) channel }
     {
-        self.first <= channel && channel < self.first + self.count
+        (self.first..self.first + self.count).contains(&channel)
     }
 
     // The spans after the lifting; none where a bound is beyond 32 bits.

@@ -27,14 +27,11 @@ impl Rct {
         ensures { rows_of result ≡ recoloured self.now.first (bounds_of y0) (bounds_of y1) (bounds_of y2) (rows_of spans.now) }
     {
         listed(spans.len(), |channel| {
-            if channel == self.first {
-                y0
-            } else if channel == self.first + 1 {
-                y1
-            } else if channel == self.first + 2 {
-                y2
-            } else {
-                row_at(spans, channel)
+            match channel.checked_sub(self.first) {
+                Some(0) => y0,
+                Some(1) => y1,
+                Some(2) => y2,
+                _ => row_at(spans, channel),
             }
         })
     }
