@@ -61,6 +61,7 @@ impl Table for Classic {
         if number == 0 {
             Stage::Rct(Rct { first: 0 })
         } else {
+            // The cast loses nothing, since there are six stages.
             five_three(Axis::Time, channels, (number - 1) as u32)
         }
     }

@@ -21,6 +21,7 @@ impl Bounds {
 
 impl SpanList {
     // The bounds of a row; past the end, those that hold 0 alone.
+    // Not as a span: the scan needs no order.
     fn bounds(&self, row: usize) -> Bounds
         ensures { result ≡ span_at (rows_of self.now) row }
     {
@@ -34,7 +35,7 @@ impl SpanList {
         if shape.channels.checked_mul(shape.samples) != Some(area.len()) {
             return false;
         }
-        // By number, since a channel's samples are the part of the area that starts at its number times their count.
+        // By number: `chunks_exact` asks for a length above 0, and this call takes every shape.
         for c in 0..shape.channels {
             let bounds = self.bounds(c);
             let from = c * shape.samples;

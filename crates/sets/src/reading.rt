@@ -18,6 +18,7 @@ impl SpanList {
         ensures { MatchOption result (length (rows_of self.now) ≤ row) (λ s. (row < length (rows_of self.now)) × (bounds_of s ≡ slice_index_or (rows_of self.now) row no_bounds)) }
     {
         let found = self.rows[..self.len].get(row)?;
+        // Made field by field: the list's rule says that a row is ordered, and `Span::new` would test it again.
         Some(Span {
             least: found.least,
             greatest: found.greatest,

@@ -29,6 +29,7 @@ impl Dep {
         ensures { let rows = plain_rows self.now in let bs = rows_of spans.now in AllNarrowed result (dep_made self.now.first rows bs) (dep_after self.now.first rows bs) }
     {
         gathered(spans.len(), |channel| {
+            // Two tests: tried a match on `channel.checked_sub(self.first)`, and the proof didn't close.
             if self.first < channel && channel < self.first + self.count {
                 self.row_after(spans, channel - self.first)
             } else {

@@ -1,4 +1,5 @@
-// The kinds of stage: lifting, the reversible colour transform, and dependency rows.
+// The kinds of stage (lifting, the reversible colour transform, and dependency rows), their rules on spans,
+// and tables of stages.
 #![tactic(auto)]
 
 mod checked;

@@ -17,12 +17,12 @@ impl Lift {
     }
 
     // The spans after the lifting; none where a bound is beyond 32 bits.
-    pub(crate) fn spans_after(&self, set: &Checked, spans: &SpanList) -> Option<SpanList>
+    pub(crate) fn spans_after(&self, checked: &Checked, spans: &SpanList) -> Option<SpanList>
         requires { self.now.first + self.now.count ≤ length (rows_of spans.now) }
-        ensures { LiftMakes result (lift_made set.now.shape) (lift_after set.now.shape) self.now (rows_of spans.now) }
+        ensures { LiftMakes result (lift_made checked.now.shape) (lift_after checked.now.shape) self.now (rows_of spans.now) }
     {
         match self.axis {
-            Axis::Time => self.along_samples(set, spans),
+            Axis::Time => self.along_samples(checked, spans),
             Axis::Channel => self.along_channels(spans),
         }
     }

@@ -26,12 +26,12 @@ fn two(a: Span, b: Span) -> SpanList
 
 impl Lift {
     // The spans of the even and of the odd indices of a channel after the lifting along its samples.
-    fn channel_ends(&self, set: &Checked, span: &Span) -> Option<SpanList>
-        ensures { LiftMakes result (channel_made set.now.shape) (channel_ends set.now.shape) self.now (bounds_of span.now) }
+    fn channel_ends(&self, checked: &Checked, span: &Span) -> Option<SpanList>
+        ensures { LiftMakes result (channel_made checked.now.shape) (channel_ends checked.now.shape) self.now (bounds_of span.now) }
     {
         let pair = two(*span, *span);
         // Casts lose nothing, as the check proves: a `try_from` would have a failure to answer that cannot come.
-        match self.indexed(set.shape.origin as u32, set.shape.samples as u32) {
+        match self.indexed(checked.shape.origin as u32, checked.shape.samples as u32) {
             Indexed::Many => Line::Parities.walk(&pair, self),
             Indexed::LoneOdd => Some(two(raise(span, &Reach::from(*span))?, *span)),
             Indexed::Still => Some(pair),
@@ -39,23 +39,23 @@ impl Lift {
     }
 
     // The span of a channel after the lifting along its samples.
-    fn channel_after(&self, set: &Checked, span: &Span) -> Option<Span>
-        ensures { ChannelMakes result set.now.shape self.now (bounds_of span.now) }
+    fn channel_after(&self, checked: &Checked, span: &Span) -> Option<Span>
+        ensures { ChannelMakes result checked.now.shape self.now (bounds_of span.now) }
     {
-        let ends = self.channel_ends(set, span)?;
+        let ends = self.channel_ends(checked, span)?;
         let both = join(&row_at(&ends, 0), &row_at(&ends, 1));
         Some(join(span, &both))
     }
 
     // The spans after the lifting along the samples.
-    pub(crate) fn along_samples(&self, set: &Checked, spans: &SpanList) -> Option<SpanList>
+    pub(crate) fn along_samples(&self, checked: &Checked, spans: &SpanList) -> Option<SpanList>
         requires { self.now.first + self.now.count ≤ length (rows_of spans.now) }
-        ensures { LiftMakes result (samples_made set.now.shape) (samples_after set.now.shape) self.now (rows_of spans.now) }
+        ensures { LiftMakes result (samples_made checked.now.shape) (samples_after checked.now.shape) self.now (rows_of spans.now) }
     {
         gathered(spans.len(), |channel| {
             let span = row_at(spans, channel);
             if self.lists(channel) {
-                self.channel_after(set, &span)
+                self.channel_after(checked, &span)
             } else {
                 Some(span)
             }

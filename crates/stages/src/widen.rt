@@ -10,7 +10,7 @@ use sets::refusal::Refusal;
 use sets::shape::Shape;
 use sets::span_list::SpanList;
 
-// The kinds are a closed set, so each of these is a match: a trait of kinds would be four impls of the same three functions.
+// Closed kinds, one expression each: a trait would spread these matches over four impls.
 impl Stage {
     // The first channel that the stage lists.
     #[tactic(auto, unfolding(crate::specs::Plain::plain))]
@@ -43,13 +43,14 @@ impl Stage {
     }
 
     // The spans after the stage; none where a bound is beyond 32 bits.
+    // Stage and spans stay two values: a type of both would be taken apart in every closure.
     #[tactic(auto, using(crate::proofs::Plains::rows_count), unfolding(crate::specs::Plain::plain))]
-    fn spans_after(&self, set: &Checked, spans: &SpanList) -> Option<SpanList>
+    fn spans_after(&self, checked: &Checked, spans: &SpanList) -> Option<SpanList>
         requires { end_of (plain self.now) ≤ length (rows_of spans.now) }
-        ensures { let bs = rows_of spans.now in AllNarrowed result (bounds_made set.now.shape (plain self.now) bs) (spans_after set.now.shape (plain self.now) bs) }
+        ensures { let bs = rows_of spans.now in AllNarrowed result (bounds_made checked.now.shape (plain self.now) bs) (spans_after checked.now.shape (plain self.now) bs) }
     {
         match self {
-            Stage::Lift(lift) => lift.spans_after(set, spans),
+            Stage::Lift(lift) => lift.spans_after(checked, spans),
             Stage::Dep(dep) => dep.spans_after(spans),
             Stage::Rct(rct) => rct.spans_after(spans),
         }
@@ -67,8 +68,8 @@ impl Stage {
         if !self.fits_in(shape.channels) {
             return Err(Refusal::DoesNotFit);
         }
-        let set = Checked { shape: *shape };
-        self.spans_after(&set, spans).ok_or(Refusal::TooWide)
+        let checked = Checked { shape: *shape };
+        self.spans_after(&checked, spans).ok_or(Refusal::TooWide)
     }
 
     // Replaces the spans by those after the stage.

@@ -10,7 +10,7 @@ use Rattle.stages.proofs.stage.Lift.along_samples.Goals as goal
 
 pub returns : goal.returns
 returns c =
-    let f = c.args.set.now.shape in
+    let f = c.args.checked.now.shape in
     let l = plain_lift c.args.self.now in
     let ss = plain_steps c.args.self.now in
     let bs = rows_of c.args.spans.now in
