@@ -51,11 +51,8 @@ impl Lift {
         ensures { result ≡ (if on_line (plain_lift self.now) channel then Some (index_of (plain_lift self.now) channel) else None) }
     {
         let step = self.distance();
-        if self.lists(channel) && (channel - self.first) % step == 0 {
-            Some((channel - self.first) / step)
-        } else {
-            None
-        }
+        let place = channel.checked_sub(self.first)?;
+        (self.lists(channel) && place % step == 0).then_some(place / step)
     }
 
     // The spans after the lifting along the channels.
@@ -65,10 +62,8 @@ impl Lift {
         let ends = self.line_ends(spans)?;
         Some(listed(spans.len(), |channel| {
             let span = row_at(spans, channel);
-            match self.index_of(channel) {
-                Some(index) => join(&span, &row_at(&ends, index)),
-                None => span,
-            }
+            self.index_of(channel)
+                .map_or(span, |index| join(&span, &row_at(&ends, index)))
         }))
     }
 }
