@@ -19,10 +19,8 @@ fn taps(line: &Line, from: usize, n: usize) -> Result<[i16; 8], Fault>
 {
     // The casts, here and below, lose nothing, as the check proves: `try_from` would ask for an answer where it fails.
     let mut found: [i16; 8] = [0; 8];
-    // By index: of what is written through an adapter of `iter_mut` nothing is known afterwards.
-    for i in 0..n {
-        let tap = line.number((from + i) as u8, -32768, 32767)?;
-        found[i] = tap as i16;
+    for (i, tap) in found[..n].iter_mut().enumerate() {
+        *tap = line.number((from + i) as u8, -32768, 32767)? as i16;
     }
     Ok(found)
 }

@@ -6,6 +6,6 @@ use Rattle.recipe.proofs.forms.taps.Given as goal
 
 abbrev pub invariant-loop-i : goal.invariant-loop-i
 invariant-loop-i l =
-    (length l.found ≡ 8)
-    × (take l.i l.found ≡ numbers (fields_in l.line) l.from l.i)
+    (length l.tap-items ≡ l.n)
+    × (take l.i l.tap-items ≡ numbers (fields_in l.line) l.from l.i)
     × (first_wrong l.line.number (fields_in l.line) l.from (replicate l.n tap_rule) ≡ first_wrong l.line.number (fields_in l.line) (l.from + l.i) (replicate (l.n - l.i) tap_rule))
