@@ -39,7 +39,7 @@ fn set_line(line: &Line) -> Result<Request, Fault>
 fn set_due(line: &Line) -> Result<Request, Fault>
     ensures { Judged (headed (codes "SET") set line.now.number (fields_in line.now)) (Sets (fields_in line.now)) result }
 {
-    line.begun(b"SET", 5, 5)?;
+    line.check_head(b"SET", 5, 5)?;
     set_line(line)
 }
 

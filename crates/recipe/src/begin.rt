@@ -9,13 +9,13 @@ use crate::table::Recipe;
 
 impl Recipe {
     // Refuses a stage that has no room, and then a line that has not so many fields behind its word.
-    fn holds(&self, line: &Line, behind: usize) -> Result<(), Fault>
+    fn check_start(&self, line: &Line, behind: usize) -> Result<(), Fault>
         ensures { Passes (wrong_start (table_of self.now) behind line.now) result }
     {
         if self.len == 16 {
             return Err(line.fault(Cause::StageCount, 0));
         }
-        line.sized(behind, behind)
+        line.check_count(behind, behind)
     }
 
     // The stage that a line begins.
@@ -23,16 +23,17 @@ impl Recipe {
     pub(crate) fn stage_line(&self, line: &Line) -> Result<Begun, Fault>
         ensures { Opens (table_of self.now) line.now result }
     {
+        // No match on the words: it parts them byte by byte, and the last arm, reached in twelve ways, asks for a proof of each.
         if line.begins(b"LIFT") {
-            self.holds(line, 7)?;
+            self.check_start(line, 7)?;
             return lift_line(line);
         }
         if line.begins(b"DEP") {
-            self.holds(line, 2)?;
+            self.check_start(line, 2)?;
             return dep_line(line);
         }
         if line.begins(b"RCT") {
-            self.holds(line, 1)?;
+            self.check_start(line, 1)?;
             return rct_line(line);
         }
         Err(line.fault(Cause::WordDue, 0))

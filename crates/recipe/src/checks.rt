@@ -32,29 +32,30 @@ impl Line<'_> {
     }
 
     // Refuses a line that has not from `least` to `greatest` fields behind its word.
-    pub(crate) fn sized(&self, least: usize, greatest: usize) -> Result<(), Fault>
+    pub(crate) fn check_count(&self, least: usize, greatest: usize) -> Result<(), Fault>
         ensures { Passes (wrong_count least greatest self.now) result }
     {
         let behind = self.commas();
-        if behind < least || behind > greatest {
+        if !(least..=greatest).contains(&behind) {
             return Err(self.fault(Cause::FieldCount, 0));
         }
         Ok(())
     }
 
     // Refuses a line that does not begin with `word`, and then one whose number of fields is wrong.
-    pub(crate) fn begun(&self, word: &[u8], least: usize, greatest: usize) -> Result<(), Fault>
+    pub(crate) fn check_head(&self, word: &[u8], least: usize, greatest: usize) -> Result<(), Fault>
         requires { is_word word.now ≡ true }
         ensures { Passes (wrong_head word.now least greatest self.now) result }
     {
         if !self.begins(word) {
             return Err(self.fault(Cause::WordDue, 0));
         }
-        self.sized(least, greatest)
+        self.check_count(least, greatest)
     }
 
     // The number in field `k`, if it is one between the limits.
-    // They are two numbers, since a range may also be spent, and each contract would have to rule that out.
+    // They are two numbers, since a range may also be spent, and each contract would have to rule that out;
+    // no struct either: it would be made at each call and taken apart here, and nothing keeps it.
     pub(crate) fn number(&self, k: u8, least: i32, greatest: i32) -> Result<i32, Fault>
         ensures { Judged (wrong_from self.now k (between least greatest ∷ [])) (Held least greatest (number_at (fields_in self.now) k)) result }
     {

@@ -1,5 +1,7 @@
-ghost use Rattle.std.specs.Prelude.{◌≡◌};
+ghost use Rattle.std.specs.Prelude.{◌≡◌, Some, decimal};
 ghost use Rattle.recipe.specs.Causes.{number_of};
+
+use std::fmt;
 
 // What is wrong with a text. The numbers are part of the format: reports show them.
 #[derive(Clone, Copy)]
@@ -18,7 +20,17 @@ impl Cause {
     pub fn number(self) -> u8
         ensures { result ≡ number_of self }
     {
-        self as u8
+        self as u8 // the enum's own numbers
+    }
+}
+
+// A cause is shown by its number.
+impl fmt::Display for Cause {
+    ghost output = { λ cause. Some (decimal (number_of cause)) };
+
+    fn fmt<W: fmt::Write>(&self, f: &mut fmt::Formatter<W>) -> fmt::Result {
+        let number = self.number();
+        write!(f, "{number}")
     }
 }
 
@@ -27,5 +39,5 @@ impl Cause {
 pub struct Fault {
     pub cause: Cause,
     pub line: usize,
-    pub field: usize,
+    pub field: usize, // 0 and no Option: a report shows the number
 }

@@ -33,6 +33,7 @@ const NO_QUOTIENT: Quotient = Quotient {
     exponent: 0,
 };
 
+// A function: the number is 0 or 1 by now, and a `TryFrom` would have an error to rule out.
 fn parity(number: usize) -> Parity
     ensures { result ≡ parity_from number }
 {
@@ -129,7 +130,7 @@ fn step_line(line: &Line, n: usize) -> Result<Step, Fault>
 pub(crate) fn step_due(line: &Line) -> Result<Step, Fault>
     ensures { Judged (headed (codes "STEP") step line.now.number (fields_in line.now)) (λ s. plain_step s ≡ step_from (fields_in line.now)) result }
 {
-    line.begun(b"STEP", 4, 11)?;
+    line.check_head(b"STEP", 4, 11)?;
     step_line(line, line.commas() - 3)
 }
 
@@ -168,6 +169,6 @@ pub(crate) fn row_due(line: &Line, i: usize) -> Result<Quotient, Fault>
     requires { i ≤ 7 }
     ensures { Judged (headed (codes "ROW") (row i) line.now.number (fields_in line.now)) (λ q. plain_row q ≡ row_from (fields_in line.now)) result }
 {
-    line.begun(b"ROW", i + 1, i + 1)?;
+    line.check_head(b"ROW", i + 1, i + 1)?;
     row_line(line, i)
 }

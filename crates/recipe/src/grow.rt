@@ -15,6 +15,7 @@ pub(crate) fn grown(stage: Stage, line: &Line) -> Result<Stage, Fault>
     ensures stage { Grows (plain stage) line.now result }
     ensures room { IfOk result (λ s. room_in (Some (plain s)) + 1 ≡ room_in (Some (plain stage))) }
 {
+    // The kinds are closed, and each grows in its own way.
     match stage {
         Stage::Lift(mut lift) => {
             let step = step_due(line)?;

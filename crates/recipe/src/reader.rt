@@ -18,9 +18,9 @@ impl<'a> Line<'a> {
     pub fn field(&self, k: usize) -> Field<'a>
         ensures { Shows result (at (fields_of self.now.bytes.now) k) }
     {
-        let Some(part) = self.bytes.split(|b| *b == b',').nth(k) else {
-            return Field::Empty;
-        };
-        kind(part)
+        self.bytes
+            .split(|b| *b == b',')
+            .nth(k)
+            .map_or(Field::Empty, kind)
     }
 }
