@@ -32,11 +32,8 @@ impl fmt::Display for Line {
                 least,
                 greatest,
             } => write!(f, "{stage},{channel},{least},{greatest}"),
-            Line::Fault(fault) => {
-                let number = fault.cause.number();
-                let line = fault.line;
-                let field = fault.field;
-                write!(f, "refused,{number},{line},{field}")
+            Line::Fault(Fault { cause, line, field }) => {
+                write!(f, "refused,{cause},{line},{field}")
             }
             Line::Refused { stage, refusal } => write!(f, "refused,{refusal},{stage},0"),
         }

@@ -1,4 +1,4 @@
-ghost use Rattle.std.specs.Prelude.{◌≡◌, ◌≤◌, true, ◌++◌, map, replicate, is_ok, IfOk};
+ghost use Rattle.std.specs.Prelude.{◌≡◌, ◌≤◌, true, ◌++◌, map, replicate, IfOk, OnOk};
 ghost use Rattle.sets.specs.Sets.{rows_of, bounds_of, in_limits};
 ghost use Rattle.recipe.specs.Requests.{plain_request};
 ghost use Rattle.reporting.specs.Laws.{ReportLaws};
@@ -7,20 +7,19 @@ ghost use Rattle.reporting.specs.Lines.{asked_lines, channel_lines, report_lines
 use crate::line::Line;
 use recipe::ask::request;
 use recipe::request::Request;
+use sets::span::Span;
 use sets::span_list::SpanList;
 use std::alloc::{AllocError, Global};
 
 // The spans after a stage, a line for each channel.
 fn add_channels(lines: &mut Vec<Line>, stage: usize, spans: &SpanList) -> Result<(), AllocError>
-    ensures { is_ok result ≡ true → lines.new.items ≡ lines.old.items ++ channel_lines stage 0 (rows_of spans.now) }
+    ensures { OnOk result (lines.new.items ≡ lines.old.items ++ channel_lines stage 0 (rows_of spans.now)) }
 {
     // A list hands out its rows one by one, as spans.
     for channel in 0..spans.len() {
-        let Some(span) = spans.get(channel) else {
+        let Some(Span { least, greatest }) = spans.get(channel) else {
             unreachable()
         };
-        let least = span.least;
-        let greatest = span.greatest;
         lines.push(Line::Span {
             stage,
             channel,
@@ -34,7 +33,7 @@ fn add_channels(lines: &mut Vec<Line>, stage: usize, spans: &SpanList) -> Result
 // The lines of all stages, up to the first that is refused.
 fn add_stages(lines: &mut Vec<Line>, request: &Request) -> Result<(), AllocError>
     requires { in_limits request.now.shape ≡ true }
-    ensures { is_ok result ≡ true → lines.new.items ≡ lines.old.items ++ asked_lines (plain_request request.now) }
+    ensures { OnOk result (lines.new.items ≡ lines.old.items ++ asked_lines (plain_request request.now)) }
 {
     let Ok(mut spans) = SpanList::repeat(request.span, request.shape.channels) else {
         unreachable()
