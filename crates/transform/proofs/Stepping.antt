@@ -1,6 +1,6 @@
 -- The steps of a lifting one after another, forth and back.
-use Rattle.std.proofs.Common.{◌≡◌, ℕ, ◌+◌, ◌-◌, ◌<◌, ◌≤◌, true, false, List, [], ◌∷◌, length, get_or, drop, ℤ, sym, refl, ap, ◌∙◌, subst, arith}
-use Rattle.std.proofs.lemmas.List.{drop_all, drop_more, length-map, get_or-map}
+use Rattle.std.proofs.Common.{◌≡◌, ℕ, ◌+◌, ◌<◌, ◌≤◌, true, false, List, [], ◌∷◌, length, ◌++◌, get_or, take, drop, ℤ, sym, refl, ap, ◌∙◌, subst, arith}
+use Rattle.std.proofs.lemmas.List.{take_all, take_at, take-take, length-take, get_or-take, length_push, get_or_push, drop_all, drop_more, length-map, get_or-map}
 use Rattle.std.proofs.lemmas.Bool.Decides.{nat_tests}
 use Rattle.stages.specs.declared.stage.Parity.{Parity}
 use Rattle.stages.specs.declared.stage.Parity.TheVariants.{Even, Odd}
@@ -42,11 +42,25 @@ module _ (s : LongLines) where
     pub forth_more : (k : ℕ) (d : Step) (xs ys zs : List ℤ) → k < length steps → d ≡ get_or steps k d → Turned false (step_pass s.lifting k d) xs ys → Forth (passes_from (k + 1)) ys zs → Forth (passes_from k) xs zs
     forth_more k d xs ys zs h e t rest = subst (λ ps. Forth ps xs zs) (sym (passes_more k d h e)) (more t rest)
 
-    pub back_none : (k : ℕ) (xs : List ℤ) → length steps ≤ k → Back (passes_from k) xs xs
-    back_none k xs h = subst (λ ps. Back ps xs xs) (sym (passes_over k h)) none
+  -- the first steps are left, and the steps after them are undone
+  pub record Undone (left : List Step) (xs ys : List ℤ) : Type 0 where
+    pub first : take (length left) (steps_of s.lifting.lift) ≡ left
+    pub back : Back (passes_from (length left)) xs ys
 
-    -- the step before the steps from n on
-    pub back_more : (n : ℕ) (d : Step) (xs ys zs : List ℤ) → 0 < n → n ≤ length steps → d ≡ get_or steps (n - 1) d → Back (passes_from n) xs ys → Turned true (step_pass s.lifting (n - 1) d) ys zs → Back (passes_from (n - 1)) xs zs
-    back_more n d xs ys zs some h e rest t =
-        let next : n ≡ n - 1 + 1 = omega arith in
-        subst (λ ps. Back ps xs zs) (sym (passes_more (n - 1) d (omega arith) e)) (more (subst (λ k. Back (passes_from k) xs ys) next rest) t)
+  pub back_none : (xs : List ℤ) → Undone (steps_of s.lifting.lift) xs xs
+  back_none xs =
+      let steps = steps_of s.lifting.lift in
+      record { first = take_all (length steps) steps (omega arith); back = subst (λ ps. Back ps xs xs) (sym (passes_over steps refl (length steps) (omega arith))) none }
+
+  pub back_more : (left : List Step) (k : ℕ) (d : Step) (xs ys zs : List ℤ) → k ≡ length left → Undone (left ++ d ∷ []) xs ys → Turned true (step_pass s.lifting k d) ys zs → Undone left xs zs
+  back_more left k d xs ys zs e u t =
+      let steps = steps_of s.lifting.lift in
+      let n = length left in
+      let more_one : length (left ++ d ∷ []) ≡ n + 1 = length_push left d in
+      let first : take (n + 1) steps ≡ left ++ d ∷ [] = rw more_one at u.first in
+      let below : n < length steps = omega (arith, sym (ap length first) ∙ length-take (n + 1) steps, more_one) in
+      let step : d ≡ get_or steps n d = sym (get_or_push left d d n refl) ∙ sym (ap (λ x. get_or x n d) first) ∙ get_or-take (n + 1) steps n d (omega arith) in
+      record {
+        first = sym (take-take n (n + 1) steps (omega arith)) ∙ ap (take n) first ∙ take_at left (d ∷ []) n refl;
+        back = subst (λ ps. Back ps xs zs) (sym (passes_more steps refl n d below step)) (more (subst (λ m. Back (passes_from m) xs ys) more_one u.back) (subst (λ m. Turned true (step_pass s.lifting m d) ys zs) e t));
+      }

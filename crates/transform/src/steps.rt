@@ -41,14 +41,12 @@ impl LongLines {
     }
 
     // The steps undone, the last first.
-    #[tactic(auto, using(crate::proofs::Stepping::back_none, crate::proofs::Stepping::back_more))]
     pub(crate) fn undo_steps(&self, area: &mut [i32])
         requires { length area.old ≡ size_of self.now.lifting.shape }
         ensures { Back (passes_of self.now.lifting) area.old area.new }
     {
-        let steps = self.lifting.lift.steps();
-        for k in (0..steps.len()).rev() {
-            self.turn::<true>(k, &steps[k], area);
+        for (k, step) in self.lifting.lift.steps().iter().enumerate().rev() {
+            self.turn::<true>(k, step, area);
         }
     }
 }
