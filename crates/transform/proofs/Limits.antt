@@ -29,5 +29,5 @@ time_start_small f base v first by m b s p q =
 pub position_small : (n : Lines) (j : ℕ) → j < n.count → n.start + j * n.by ≤ 2 ^ 57
 position_small n j h = omega (arith, mul-le j n.by 2097152 34359738368 (omega (arith, n.few)) n.close, n.near)
 
-pub line_small : (n : Lines) (r : ℕ) → r ≤ n.lines → r * n.apart ≤ 2 ^ 40
+pub line_small : (n : Lines) (r : ℕ) → r ≤ n.line_count → r * n.apart ≤ 2 ^ 40
 line_small n r h = omega (arith, mul-le r n.apart 1048576 1048576 (omega (arith, n.many)) n.wide)

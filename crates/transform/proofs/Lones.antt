@@ -39,10 +39,10 @@ module _ (f : Shape) (l : PlainLift) (n : Lines) (lined : Lined f l n) (one : co
   lone_spot : (r : ℕ) → spot n r 0 ≡ n.start + r * n.apart
   lone_spot r = omega arith
 
-  pub lone_at : (r : ℕ) → r < n.lines → Spot f l n r 0 (n.start + r * n.apart)
+  pub lone_at : (r : ℕ) → r < n.line_count → Spot f l n r 0 (n.start + r * n.apart)
   lone_at r h = subst (Spot f l n r 0) (lone_spot r) (lined.here r 0 h (omega (arith, lined.count)))
 
-  pub lone_touched : (R : ℤ → ℤ → Type 0) (xs ys : List ℤ) → length xs ≡ size_of f → Spaced R n.start n.apart n.lines xs ys → Touched f l R xs ys
+  pub lone_touched : (R : ℤ → ℤ → Type 0) (xs ys : List ℤ) → length xs ≡ size_of f → Spaced R n.start n.apart n.line_count xs ys → Touched f l R xs ys
   lone_touched R xs ys long d = record {
     long = d.long;
     hit = λ a h t.
@@ -56,11 +56,11 @@ module _ (f : Shape) (l : PlainLift) (n : Lines) (lined : Lined f l n) (one : co
   }
 
   -- a line whose sample has no half
-  pub lone-odd : (xs : List ℤ) → length xs ≡ size_of f → OddAt n.start n.apart n.lines xs → NoHalf f l xs
+  pub lone-odd : (xs : List ℤ) → length xs ≡ size_of f → OddAt n.start n.apart n.line_count xs → NoHalf f l xs
   lone-odd xs long o =
       let spot = lone_at o.line o.below in
       record { address = n.start + o.line * n.apart; below = omega (arith, spot.below); hit = spot.hit; odd = o.odd }
 
 -- the samples of such lines lie in the area
-pub lone_below : (f : Shape) (l : PlainLift) (n : Lines) (i : ℕ) → Lined f l n → lone_odd f l ≡ true → i < n.lines → n.start + i * n.apart < size_of f
+pub lone_below : (f : Shape) (l : PlainLift) (n : Lines) (i : ℕ) → Lined f l n → lone_odd f l ≡ true → i < n.line_count → n.start + i * n.apart < size_of f
 lone_below f l n i lined odd h = (lone_at f l n lined (lone_count f l odd) i h).below

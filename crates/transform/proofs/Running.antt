@@ -30,7 +30,7 @@ spot-moves n r j i = omega (arith, add-mul j (2 * i) n.by, mul_assoc i 2 n.by, m
 module _ (f : Shape) (l : PlainLift) (n : Lines) (lined : Lined f l n) (time : l.axis ≡ Time) where
   -- the line of a touched sample is its channel
   channel_line : (a : ℕ) → a < size_of f → (m : Parity) → changes f l m (a / f.samples) (a % f.samples) ≡ true →
-      (r : ℕ) × (r < n.lines) × (a ≡ spot n r (index_at f l a - n.first)) × (a / f.samples ≡ l.first + r) × (n.first ≤ index_at f l a)
+      (r : ℕ) × (r < n.line_count) × (a ≡ spot n r (index_at f l a - n.first)) × (a / f.samples ≡ l.first + r) × (n.first ≤ index_at f l a)
   channel_line a h m t =
       let hit = (and_parts _ _ t).0 in
       let found = lined.all a h hit in
@@ -40,7 +40,7 @@ module _ (f : Shape) (l : PlainLift) (n : Lines) (lined : Lined f l n) (time : l
       (line_at f l a, found.0, found.1, ap (λ x. x / f.samples) found.1 ∙ here.channel time, low)
 
   -- a call along line r serves count positions from j on, all of them inside
-  pub run_served : (m : Parity) (s : Step) → Near s → (r j count : ℕ) (from : List ℕ) → r < n.lines → (n.first + j) % 2 ≡ parity_of m → 17 ≤ j → j + 2 * count + 30 ≤ n.count →
+  pub run_served : (m : Parity) (s : Step) → Near s → (r j count : ℕ) (from : List ℕ) → r < n.line_count → (n.first + j) % 2 ≡ parity_of m → 17 ≤ j → j + 2 * count + 30 ≤ n.count →
       ((k : ℕ) → k < s.quotient.tap_count → get_or from k 0 ≡ spot n r (read_index_at f l n m s j k)) →
       Served f l n m s (both (between f l (n.first + j) (n.first + (j + 2 * count))) (of_channel f (l.first + r))) (spot n r j) (2 * n.by) count from
   run_served m s near r j count from on p low high e =
@@ -102,11 +102,11 @@ module _ (f : Shape) (l : PlainLift) (n : Lines) (lined : Lined f l n) (time : l
         whole : (w : Bool) (c : ℕ) → (w && ltb c (l.first + (r + 1))) ≡ true → (w && ltb c (l.first + r)) ≡ false → (w && eqb c (l.first + r)) ≡ true
         whole w c h g = grind (arith, nat_tests)
 
-    pub runs_all : (undo : Bool) (xs ys : List ℤ) → length xs ≡ size_of f → Turned undo (part_of pass (both (between f l i e) (below_channel f (l.first + n.lines)))) xs ys →
+    pub runs_all : (undo : Bool) (xs ys : List ℤ) → length xs ≡ size_of f → Turned undo (part_of pass (both (between f l i e) (below_channel f (l.first + n.line_count)))) xs ys →
         Turned undo (part_of pass (between f l i e)) xs ys
     runs_all undo xs ys long d = part_same undo pass _ _ xs ys (λ a h t.
         let found = channel_line a (omega arith) m t in
-        and_true (between f l i e a) _ (lt-ltb (a / f.samples) (l.first + n.lines) (omega (arith, found.1, found.3)))) d
+        and_true (between f l i e a) _ (lt-ltb (a / f.samples) (l.first + n.line_count) (omega (arith, found.1, found.3)))) d
       where
         and_true : (x y : Bool) → y ≡ true → (x && y) ≡ x
         and_true x y h = grind arith

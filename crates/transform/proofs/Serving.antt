@@ -33,7 +33,7 @@ module _ (f : Shape) (l : PlainLift) (n : Lines) (m : Parity) (s : Step) where
   pub record Served (w : ℕ → Bool) (to by count : ℕ) (from : List ℕ) : Type 0 where
     pub line : ℕ → ℕ
     pub position : ℕ → ℕ
-    pub on : (i : ℕ) → i < count → line i < n.lines
+    pub on : (i : ℕ) → i < count → line i < n.line_count
     pub below : (i : ℕ) → i < count → position i < n.count
     pub parity : (i : ℕ) → i < count → (n.first + position i) % 2 ≡ parity_of m
     pub place : (i : ℕ) → i < count → to + i * by ≡ spot n (line i) (position i)
@@ -120,7 +120,7 @@ module _ (f : Shape) (l : PlainLift) (n : Lines) (m : Parity) (s : Step) where
 
 -- a call across the lines serves one position of each
 pub position_served : (f : Shape) (l : PlainLift) (n : Lines) (m : Parity) (s : Step) (j : ℕ) (from : List ℕ) → Lined f l n → j < n.count → (n.first + j) % 2 ≡ parity_of m →
-    ((k : ℕ) → k < s.quotient.tap_count → get_or from k 0 ≡ spot n 0 (read_index_at f l n m s j k)) → Served f l n m s (of_index f l (n.first + j)) (n.start + j * n.by) n.apart n.lines from
+    ((k : ℕ) → k < s.quotient.tap_count → get_or from k 0 ≡ spot n 0 (read_index_at f l n m s j k)) → Served f l n m s (of_index f l (n.first + j)) (n.start + j * n.by) n.apart n.line_count from
 position_served f l n m s j from lined h p e = record {
   line = λ i. i;
   position = λ i. j;

@@ -25,9 +25,9 @@ pub record Through (f : Shape) (l : PlainLift) (n : Lines) (r c t : ℕ) : Type 
 
 -- each line runs through a listed channel, and a line runs through each sample of one
 module _ (f : Shape) (l : PlainLift) (n : Lines) (fits : l.first + l.count ≤ f.channels) (first : n.first ≡ first_of f l) (count : n.count ≡ count_of f l) (apart : 1 ≤ n.apart)
-    (each : (r : ℕ) → r < n.lines → (c : ℕ) × (t : ℕ) × Through f l n r c t)
-    (through : (c t : ℕ) → lists_channel l c ≡ true → t < f.samples → (on_axis l.axis (c - l.first) t < n.lines) × Through f l n (on_axis l.axis (c - l.first) t) c t) where
-  spot_of : (r j : ℕ) → r < n.lines → j < n.count → Spot f l n r j (spot n r j)
+    (each : (r : ℕ) → r < n.line_count → (c : ℕ) × (t : ℕ) × Through f l n r c t)
+    (through : (c t : ℕ) → lists_channel l c ≡ true → t < f.samples → (on_axis l.axis (c - l.first) t < n.line_count) × Through f l n (on_axis l.axis (c - l.first) t) c t) where
+  spot_of : (r j : ℕ) → r < n.line_count → j < n.count → Spot f l n r j (spot n r j)
   spot_of r j h k =
       let w = each r h in
       let o = w.2 in
@@ -60,7 +60,7 @@ channel_spot : (w d base first j t : ℕ) → first ≡ 0 → (base + (first + j
 channel_spot w d base first j t e = rw e (omega (arith, add-mul base ((0 + j) * d) w, add-mul 0 j d, mul_assoc j d w))
 
 lined_time : (f : Shape) (l : PlainLift) (n : Lines) → l.first + l.count ≤ f.channels → 1 ≤ f.samples → n.first ≡ first_of f (along Time l) → n.count ≡ count_of f (along Time l) →
-    n.lines ≡ l.count → n.start ≡ l.first * f.samples + (n.first * 2 ^ l.level - f.origin) → n.by ≡ 2 ^ l.level → n.apart ≡ f.samples → Lined f (along Time l) n
+    n.line_count ≡ l.count → n.start ≡ l.first * f.samples + (n.first * 2 ^ l.level - f.origin) → n.by ≡ 2 ^ l.level → n.apart ≡ f.samples → Lined f (along Time l) n
 lined_time f l n fits some first count lines start by apart =
     let w = f.samples in
     let d = 2 ^ l.level in
@@ -90,7 +90,7 @@ lined_time f l n fits some first count lines start by apart =
     ))
 
 lined_channel : (f : Shape) (l : PlainLift) (n : Lines) → l.first + l.count ≤ f.channels → 1 ≤ l.count → n.first ≡ first_of f (along Channel l) → n.count ≡ count_of f (along Channel l) →
-    n.lines ≡ f.samples → n.start ≡ l.first * f.samples → n.by ≡ 2 ^ l.level * f.samples → n.apart ≡ 1 → Lined f (along Channel l) n
+    n.line_count ≡ f.samples → n.start ≡ l.first * f.samples → n.by ≡ 2 ^ l.level * f.samples → n.apart ≡ 1 → Lined f (along Channel l) n
 lined_channel f l n fits some first count lines start by apart =
     let w = f.samples in
     let d = 2 ^ l.level in
@@ -111,9 +111,9 @@ lined_channel f l n fits some first count lines start by apart =
     (λ c t on h. (omega arith, record { listed = on; sample = h; spots = λ j. spots c t j; channel = λ e. absurd (channel_is_not_time e) }))
 
 pub time_lined : (f : Shape) (l : PlainLift) (n : Lines) → l.axis ≡ Time → l.first + l.count ≤ f.channels → 1 ≤ f.samples → n.first ≡ first_index l.level f.origin → n.count ≡ index_count l.level f.origin f.samples →
-    n.lines ≡ l.count → n.start ≡ l.first * f.samples + (n.first * 2 ^ l.level - f.origin) → n.by ≡ 2 ^ l.level → n.apart ≡ f.samples → Lined f l n
+    n.line_count ≡ l.count → n.start ≡ l.first * f.samples + (n.first * 2 ^ l.level - f.origin) → n.by ≡ 2 ^ l.level → n.apart ≡ f.samples → Lined f l n
 time_lined f l n axis fits some first count lines start by apart = subst (λ x. Lined f (along x l) n) (sym axis) (lined_time f l n fits some first count lines start by apart)
 
 pub channel_lined : (f : Shape) (l : PlainLift) (n : Lines) → l.axis ≡ Channel → l.first + l.count ≤ f.channels → 1 ≤ l.count → n.first ≡ first_index l.level 0 → n.count ≡ index_count l.level 0 l.count →
-    n.lines ≡ f.samples → n.start ≡ l.first * f.samples → n.by ≡ 2 ^ l.level * f.samples → n.apart ≡ 1 → Lined f l n
+    n.line_count ≡ f.samples → n.start ≡ l.first * f.samples → n.by ≡ 2 ^ l.level * f.samples → n.apart ≡ 1 → Lined f l n
 channel_lined f l n axis fits some first count lines start by apart = subst (λ x. Lined f (along x l) n) (sym axis) (lined_channel f l n fits some first count lines start by apart)

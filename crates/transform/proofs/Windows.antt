@@ -101,24 +101,24 @@ module _ (f : Shape) (l : PlainLift) (m : Parity) (s : PlainStep) where
 
 -- the same of a step that is carried out, by positions
 module _ (undo : Bool) (t : Turn) (xs ys zs : List ℤ) (long : Sized t xs) where
-  many : 2 ≤ count_of t.on.lifting.shape (plain_lift t.on.lifting.lift)
-  many = subst (λ n. 2 ≤ n) t.on.lined.count t.on.many
+  many : 2 ≤ count_of t.on_lines.lifting.shape (plain_lift t.on_lines.lifting.lift)
+  many = subst (λ n. 2 ≤ n) t.on_lines.lined.count t.on_lines.many
 
   pub positions_more : (i j : ℕ) → i ≤ j → Hits t j → TurnedAt undo t (from_to t i j) xs ys → TurnedAt undo t (at_position t j) ys zs → TurnedAt undo t (from_to t i (j + 2)) xs zs
   positions_more i j h q d e =
-      window_more t.on.lifting.shape (plain_lift t.on.lifting.lift) t.parity (plain_step t.step) t.on.lifting.room many undo xs ys zs long (t.on.lines.first + i) (t.on.lines.first + j) (t.on.lines.first + (j + 2))
+      window_more t.on_lines.lifting.shape (plain_lift t.on_lines.lifting.lift) t.parity (plain_step t.step) t.on_lines.lifting.room many undo xs ys zs long (t.on_lines.lines.first + i) (t.on_lines.lines.first + j) (t.on_lines.lines.first + (j + 2))
       (omega arith) (omega arith) q d e
 
   pub positions_joined : (i j e : ℕ) → i ≤ j → j ≤ e → TurnedAt undo t (from_to t i j) xs ys → TurnedAt undo t (from_to t j e) ys zs → TurnedAt undo t (from_to t i e) xs zs
   positions_joined i j e h g d b =
-      window_joined t.on.lifting.shape (plain_lift t.on.lifting.lift) t.parity (plain_step t.step) t.on.lifting.room many undo xs ys zs long (t.on.lines.first + i) (t.on.lines.first + j) (t.on.lines.first + e)
+      window_joined t.on_lines.lifting.shape (plain_lift t.on_lines.lifting.lift) t.parity (plain_step t.step) t.on_lines.lifting.room many undo xs ys zs long (t.on_lines.lines.first + i) (t.on_lines.lines.first + j) (t.on_lines.lines.first + e)
       (omega arith) (omega arith) d b
 
 -- an end that has not the parity of the step may be put off by one
 pub positions_end : (undo : Bool) (t : Turn) (xs ys : List ℤ) (i j e : ℕ) → Hits t j → e ≤ j → j ≤ e + 1 → TurnedAt undo t (from_to t i j) xs ys → TurnedAt undo t (from_to t i e) xs ys
 positions_end undo t xs ys i j e q low high d =
-    window_end t.on.lifting.shape (plain_lift t.on.lifting.lift) t.parity (plain_step t.step) undo (t.on.lines.first + i) (t.on.lines.first + j) (t.on.lines.first + e) xs ys q (omega arith) (omega arith) d
+    window_end t.on_lines.lifting.shape (plain_lift t.on_lines.lifting.lift) t.parity (plain_step t.step) undo (t.on_lines.lines.first + i) (t.on_lines.lines.first + j) (t.on_lines.lines.first + e) xs ys q (omega arith) (omega arith) d
 
 -- all positions, from the first of the parity on
-pub positions_all : (undo : Bool) (t : Turn) (p : ℕ) (xs ys : List ℤ) → Sized t xs → p ≡ parity_of t.parity → p ≤ 1 → TurnedAt undo t (from_to t ((t.on.lines.first + p) % 2) t.on.lines.count) xs ys → Turned undo (pass_of t) xs ys
-positions_all undo t p xs ys long e small d = window_lines t.on.lifting.shape (plain_lift t.on.lifting.lift) t.parity (plain_step t.step) t.on.lines p undo xs ys t.on.lined long e small d
+pub positions_all : (undo : Bool) (t : Turn) (p : ℕ) (xs ys : List ℤ) → Sized t xs → p ≡ parity_of t.parity → p ≤ 1 → TurnedAt undo t (from_to t ((t.on_lines.lines.first + p) % 2) t.on_lines.lines.count) xs ys → Turned undo (pass_of t) xs ys
+positions_all undo t p xs ys long e small d = window_lines t.on_lines.lifting.shape (plain_lift t.on_lines.lifting.lift) t.parity (plain_step t.step) t.on_lines.lines p undo xs ys t.on_lines.lined long e small d

@@ -29,5 +29,5 @@ pub record Lined (f : Shape) (l : PlainLift) (n : Lines) : Type 0 where
   pub first : n.first ≡ first_of f l
   pub count : n.count ≡ count_of f l
   pub apart : 1 ≤ n.apart
-  pub here : (r j : ℕ) → r < n.lines → j < n.count → Spot f l n r j (spot n r j)
-  pub all : (a : ℕ) → a < size_of f → touched f l (a / f.samples) (a % f.samples) ≡ true → (line_at f l a < n.lines) × (a ≡ spot n (line_at f l a) (index_at f l a - n.first))
+  pub here : (r j : ℕ) → r < n.line_count → j < n.count → Spot f l n r j (spot n r j)
+  pub all : (a : ℕ) → a < size_of f → touched f l (a / f.samples) (a % f.samples) ≡ true → (line_at f l a < n.line_count) × (a ≡ spot n (line_at f l a) (index_at f l a - n.first))

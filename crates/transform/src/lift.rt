@@ -14,18 +14,18 @@ impl Turn {
     // The step at position j of every line.
     fn position<const UNDO: bool>(&self, j: usize, area: &mut [i32])
         requires sized { Sized self.now area.old }
-        requires inside { j < self.now.on.lines.count }
+        requires inside { j < self.now.on_lines.lines.count }
         requires hits { Hits self.now j }
         ensures { TurnedAt UNDO self.now (at_position self.now j) area.old area.new }
     {
         let from = self.sources(0, j);
-        let lines = &self.on.lines;
+        let lines = &self.on_lines.lines;
         let row = Row {
             quotient: self.step.quotient,
             from,
             to: lines.start + j * lines.by,
             by: lines.apart,
-            count: lines.lines,
+            count: lines.line_count,
         };
         row.turn::<UNDO>(area);
     }
@@ -33,7 +33,7 @@ impl Turn {
     // The step at the positions of its parity from `from` on and below `to`.
     fn positions<const UNDO: bool>(&self, from: usize, to: usize, area: &mut [i32])
         requires sized { Sized self.now area.old }
-        requires inside { (from ≤ to + 1) × (to ≤ self.now.on.lines.count) }
+        requires inside { (from ≤ to + 1) × (to ≤ self.now.on_lines.lines.count) }
         requires hits { Hits self.now from }
         ensures { TurnedAt UNDO self.now (from_to self.now from to) area.old area.new }
     {
@@ -44,13 +44,13 @@ impl Turn {
 
     // The step along the samples, at the positions of its parity from `from` on. Those near the ends are worked out one by one, and all
     // where the offset is none that a recipe may write.
-    fn along_time<const UNDO: bool>(&self, from: usize, area: &mut [i32])
+    fn along_samples<const UNDO: bool>(&self, from: usize, area: &mut [i32])
         requires sized { Sized self.now area.old }
-        requires axis { self.now.on.lifting.lift.axis ≡ Time }
+        requires axis { self.now.on_lines.lifting.lift.axis ≡ Time }
         requires inside { (from ≤ 1) × (Hits self.now from) }
-        ensures { TurnedAt UNDO self.now (from_to self.now from self.now.on.lines.count) area.old area.new }
+        ensures { TurnedAt UNDO self.now (from_to self.now from self.now.on_lines.lines.count) area.old area.new }
     {
-        let end = self.on.lines.count;
+        let end = self.on_lines.lines.count;
         let start = from + MARGIN;
         let near = self.step.offset >= -8 && self.step.offset <= 8;
         if !near || end < start + MARGIN {
@@ -68,10 +68,10 @@ impl Turn {
         requires { Sized self.now area.old }
         ensures { Turned UNDO (pass_of self.now) area.old area.new }
     {
-        let lines = &self.on.lines;
+        let lines = &self.on_lines.lines;
         let from = (lines.first + self.parity.number()) % 2;
-        match self.on.lifting.lift.axis {
-            Axis::Time => self.along_time::<UNDO>(from, area),
+        match self.on_lines.lifting.lift.axis {
+            Axis::Time => self.along_samples::<UNDO>(from, area),
             Axis::Channel => self.positions::<UNDO>(from, lines.count, area),
         }
     }

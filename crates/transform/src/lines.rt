@@ -5,7 +5,7 @@ ghost use Rattle.std.specs.Prelude.{◌^◌, ◌≤◌};
 pub(crate) struct Lines {
     pub(crate) start: usize,
     pub(crate) by: usize,
-    pub(crate) lines: usize,
+    pub(crate) line_count: usize,
     pub(crate) apart: usize,
     pub(crate) first: usize,
     pub(crate) count: usize,
@@ -14,6 +14,6 @@ pub(crate) struct Lines {
     ghost close: { by ≤ 2 ^ 35 },
     ghost low: { first ≤ 2 ^ 21 },
     ghost few: { count ≤ 2 ^ 21 },
-    ghost many: { lines ≤ 2 ^ 20 },
+    ghost many: { line_count ≤ 2 ^ 20 },
     ghost wide: { apart ≤ 2 ^ 20 },
 }

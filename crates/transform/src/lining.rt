@@ -29,7 +29,7 @@ impl Lifting {
         Lines {
             start: self.lift.first * self.shape.samples + (first * by - self.shape.origin),
             by,
-            lines: self.lift.count,
+            line_count: self.lift.count,
             apart: self.shape.samples,
             first,
             count: self
@@ -47,7 +47,7 @@ impl Lifting {
         Lines {
             start: self.lift.first * self.shape.samples,
             by: distance(&self.lift) * self.shape.samples,
-            lines: self.shape.samples,
+            line_count: self.shape.samples,
             apart: 1,
             first: self.lift.first_index(0),
             count: self.lift.index_count(0, self.lift.count as u32),

@@ -31,7 +31,7 @@ impl Lifting {
         ensures { Doubled self.now.shape (plain_lift self.now.lift) area.old area.new }
     {
         let lines = self.along_time();
-        for i in 0..lines.lines {
+        for i in 0..lines.line_count {
             let a = lines.start + i * lines.apart;
             area[a] = double(area[a]);
         }
@@ -45,7 +45,7 @@ impl Lifting {
         ensures odd { result ≡ false → NoHalf self.now.shape (plain_lift self.now.lift) area.old }
     {
         let lines = self.along_time();
-        for i in 0..lines.lines {
+        for i in 0..lines.line_count {
             let a = lines.start + i * lines.apart;
             let Some(x) = half(area[a]) else {
                 return false;

@@ -22,7 +22,7 @@ impl LongLines {
         ensures { Turned UNDO (step_pass self.now.lifting k step.now) area.old area.new }
     {
         let turn = Turn {
-            on: *self,
+            on_lines: *self,
             parity: self.parity(k),
             step: *step,
         };

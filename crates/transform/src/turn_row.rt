@@ -9,7 +9,7 @@ use crate::row::Row;
 use stages::product::product;
 
 // A sample with a quotient added, or to undo taken away, in 32 bits that wrap.
-fn turn<const UNDO: bool>(x: i32, q: i64) -> i32
+fn turned<const UNDO: bool>(x: i32, q: i64) -> i32
     requires { (neg_ℤ (pos (2 ^ 50)) ≤ℤ q) × (q ≤ℤ pos (2 ^ 50)) }
     ensures { result ≡ int_wrap w32 (turned_by UNDO x q) }
 {
@@ -43,7 +43,7 @@ impl Row {
     {
         let shift = i * self.by;
         let q = self.quotient_at::<N>(shift, area);
-        area[self.to + shift] = turn::<UNDO>(area[self.to + shift], q);
+        area[self.to + shift] = turned::<UNDO>(area[self.to + shift], q);
     }
 
     // Changes each sample. The number of taps is known when the loop is compiled, and two samples are changed in a turn.

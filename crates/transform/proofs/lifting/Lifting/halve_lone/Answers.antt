@@ -44,5 +44,5 @@ loop-i-preserved c =
 pub returns-clause-even : goal.returns-clause-even
 returns-clause-even c _ =
     let s = c.args.self.now in
-    let all : c.loop-i.i ≡ c.along_time-lines.result.lines = omega arith in
+    let all : c.loop-i.i ≡ c.along_time-lines.result.line_count = omega arith in
     lone_touched _ _ _ c.along_time-lines.ensures (lone_count s.shape (plain_lift s.lift) c.requires.lone) Half _ _ c.requires.long (rw all at c.loop-i.invariant)

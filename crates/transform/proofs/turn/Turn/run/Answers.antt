@@ -7,7 +7,7 @@ use Rattle.transform.proofs.turn.Turn.run.Goals as goal
 pub invariant_of-row-clause-apart : goal.invariant_of-row-clause-apart
 invariant_of-row-clause-apart g c =
     let t = c.args.self.now in
-    let on = t.on in
+    let on = t.on_lines in
     let served = run_served on.lifting.shape (plain_lift on.lifting.lift) on.lines on.lined c.requires.axis t.parity t.step c.requires.near c.args.line c.args.j c.args.count c.sources-from.result
     c.requires.line c.requires.hits (omega arith) (omega arith) c.sources-from.ensures in
     served_apart _ _ _ _ _ on.lined on.many _ _ _ _ _ served
@@ -15,7 +15,7 @@ invariant_of-row-clause-apart g c =
 pub turn-requires : goal.turn-requires
 turn-requires g c =
     let t = c.args.self.now in
-    let on = t.on in
+    let on = t.on_lines in
     let served = run_served on.lifting.shape (plain_lift on.lifting.lift) on.lines on.lined c.requires.axis t.parity t.step c.requires.near c.args.line c.args.j c.args.count c.sources-from.result
     c.requires.line c.requires.hits (omega arith) (omega arith) c.sources-from.ensures in
     served_fits _ _ _ _ _ on.lined on.many _ _ served refl _ c.requires.sized
@@ -23,7 +23,7 @@ turn-requires g c =
 pub returns : goal.returns
 returns g c =
     let t = c.args.self.now in
-    let on = t.on in
+    let on = t.on_lines in
     let served = run_served on.lifting.shape (plain_lift on.lifting.lift) on.lines on.lined c.requires.axis t.parity t.step c.requires.near c.args.line c.args.j c.args.count c.sources-from.result
     c.requires.line c.requires.hits (omega arith) (omega arith) c.sources-from.ensures in
     served_turned _ _ _ _ _ on.lined on.many _ _ served refl _ _ _ c.requires.sized c.turn.ensures

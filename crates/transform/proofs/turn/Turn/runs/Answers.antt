@@ -6,13 +6,13 @@ use Rattle.transform.proofs.turn.Turn.runs.Goals as goal
 pub loop-line-preserved : goal.loop-line-preserved
 loop-line-preserved g c =
     let t = c.args.self.now in
-    let on = t.on in
+    let on = t.on_lines in
     runs_more on.lifting.shape (plain_lift on.lifting.lift) on.lines on.lined c.requires.axis t.parity (plain_step t.step) _ _
     _ c.loop-line.line _ _ _ on.lifting.room on.many c.requires.sized c.loop-line.invariant c.run.ensures
 
 pub returns : goal.returns
 returns g c =
     let t = c.args.self.now in
-    let on = t.on in
-    let all : c.loop-line.line ≡ on.lines.lines = omega arith in
+    let on = t.on_lines in
+    let all : c.loop-line.line ≡ on.lines.line_count = omega arith in
     runs_all on.lifting.shape (plain_lift on.lifting.lift) on.lines on.lined c.requires.axis t.parity (plain_step t.step) _ _ _ _ c.loop-line.area c.requires.sized (rw all at c.loop-line.invariant)
