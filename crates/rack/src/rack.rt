@@ -9,6 +9,7 @@ use sets::shape::Shape;
 use sets::span_list::SpanList;
 
 // The calls that every rack answers, for all values. They are the same for every rack, so that a rack is its stages.
+// Shape, number, spans and area are passed apart: the caller keeps them in different places, and each call lends others of them.
 pub trait Rack: Stages {
     // Refused where there is no such stage, or it does not fit.
     fn asked(&self, shape: &Shape, number: usize) -> Result<(), Refusal>
@@ -47,6 +48,7 @@ pub trait Rack: Stages {
     }
 
     // Writes the channels that a stage lists to the front of the list, and answers how many there are.
+    // An array and a count, and no vector: no call allocates, and the bytes behind stay the caller's.
     #[tactic(auto, unfolding(crate::specs::Calls::list_refused))]
     fn list(&self, shape: &Shape, number: usize, list: &mut [u8; 64]) -> Result<usize, Refusal>
         ensures { Lists (meaning Self.Stages self.now) shape.now number list.old result list.new }

@@ -13,6 +13,7 @@ use sets::span_list::SpanList;
 
 // What a maker of a rack gives: its meaning, the laws that hold of it, and the work of each stage.
 // The methods are asked only where nothing is refused, so they may ask for that in turn.
+// Shape, number, spans and area are passed apart, as the calls of `Rack` pass them.
 pub trait Stages {
     ghost stages: { Self → ℕ };
 

@@ -1,5 +1,5 @@
 -- A lifting on an area that it is admitted to, applied and undone, by how many indices its lines have.
-use Rattle.std.proofs.Common.{◌≡◌, ℕ, ◌+◌, ◌/◌, ◌%◌, ◌<◌, ◌≤◌, Bool, true, false, leb, List, length, ℤ, pos, ◌+ℤ◌, sym, refl, ap, ◌∙◌, subst, ⊎_elim, arith, w32, SFits}
+use Rattle.std.proofs.Common.{◌≡◌, ℕ, ◌+◌, ◌/◌, ◌%◌, ◌<◌, ◌≤◌, true, false, leb, Option, Some, None, is_some, List, length, ℤ, pos, ◌+ℤ◌, sym, refl, ap, ◌∙◌, subst, ⊎_elim, arith, w32, SFits}
 use Rattle.std.proofs.lemmas.List.{ext_get_or}
 use Rattle.std.proofs.lemmas.Int.{ints, int_wrap_fits}
 use Rattle.std.proofs.lemmas.Bool.{cases_Bool, cond-true, cond-false, leb-true}
@@ -89,6 +89,6 @@ module _ (f : Shape) (l : PlainLift) (ss : List PlainStep) (s : SpanList) (w : W
 
 -- a doubling undone, or refused at an odd sample
 pub halved_back : (f : Shape) (l : PlainLift) (ss : List PlainStep) → leb 2 (count_of f l) ≡ false → lone_odd f l ≡ true → (ys zs : List ℤ) → length ys ≡ size_of f →
-    (r : Bool) → (r ≡ true → Halved f l ys zs) → (r ≡ false → NoHalf f l ys) → TakenBack f (lift l ss) ys r zs
-halved_back f l ss m o ys zs long true even odd = λ s w. halving_source f l ss s w m o ys zs long (even refl)
-halved_back f l ss m o ys zs long false even odd = λ s w. odd_foreign f l ss s w m o ys long (odd refl)
+    (r : Option Unit) → (r ≡ Some tt → Halved f l ys zs) → (r ≡ None → NoHalf f l ys) → TakenBack f (lift l ss) ys (is_some r) zs
+halved_back f l ss m o ys zs long (Some tt) even odd = λ s w. halving_source f l ss s w m o ys zs long (even refl)
+halved_back f l ss m o ys zs long None even odd = λ s w. odd_foreign f l ss s w m o ys long (odd refl)

@@ -9,6 +9,7 @@ use crate::dep_rows::DepRows;
 use crate::row::Row;
 use stages::quotient::Quotient;
 
+// The functions on areas ask for the length of the sets: a type of both would have to hold the lent area.
 impl DepRows {
     // Row i, from 1 up, without the taps that have no sample to read.
     #[tactic(auto, using(crate::proofs::DepRows::taps_cut))]
@@ -33,6 +34,7 @@ impl DepRows {
     }
 
     // Takes the quotient of row i, from 1 up, away from the samples of its channel, or adds it to them again.
+    // TAKE is known when this is compiled, so that the inner loop has no branch.
     fn turn<const TAKE: bool>(&self, i: usize, area: &mut [i32])
         requires row { (1 ≤ i) × (i < self.now.dep.count) }
         requires long { length area.old ≡ size_of self.now.shape }

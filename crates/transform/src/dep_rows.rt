@@ -5,6 +5,7 @@ use sets::shape::Shape;
 use stages::stage::Dep;
 
 // Dependency rows in sets of a shape, which have all the channels that the rows take.
+// A type apart from `Lifting`: a generic one would need a trait for first and count alone.
 #[derive(Clone, Copy)]
 pub(crate) struct DepRows {
     pub(crate) shape: Shape,

@@ -5,6 +5,7 @@ use crate::lifting::Lifting;
 use stages::indexed::Indexed;
 use stages::stage::Axis;
 
+// Casts lose nothing, as the check proves: a `try_from` would have a failure to answer that cannot come.
 impl Lifting {
     // What the lifting does to its lines, by how many indices each has.
     pub(crate) fn indexed(&self) -> Indexed

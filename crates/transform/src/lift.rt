@@ -10,6 +10,7 @@ use stages::stage::Axis;
 // So many positions from an end of a line on, all that a step with an offset of -8 to 8 reads is inside.
 const MARGIN: usize = 32;
 
+// Each function asks that the area has as many samples as the sets: a type of both would have to hold the lent area.
 impl Turn {
     // The step at position j of every line.
     fn position<const UNDO: bool>(&self, j: usize, area: &mut [i32])
@@ -52,7 +53,7 @@ impl Turn {
     {
         let end = self.on_lines.lines.count;
         let start = from + MARGIN;
-        let near = self.step.offset >= -8 && self.step.offset <= 8;
+        let near = (-8..=8).contains(&self.step.offset);
         if !near || end < start + MARGIN {
             self.positions::<UNDO>(from, end, area);
             return;

@@ -33,7 +33,7 @@ impl Work for Lift {
                 lifting.long_lines().undo_steps(area);
                 true
             }
-            Indexed::LoneOdd => lifting.halve_lone(area),
+            Indexed::LoneOdd => lifting.halve_lone(area).is_some(),
             Indexed::Still => true,
         }
     }

@@ -18,6 +18,7 @@ fn distance(lift: &Lift) -> usize
     1 << lift.level
 }
 
+// Casts lose nothing, as the check proves: a `try_from` would have a failure to answer that cannot come.
 impl Lifting {
     // The lines along the samples of each channel that the lifting lists.
     pub(crate) fn along_time(&self) -> Lines

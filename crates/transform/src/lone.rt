@@ -1,4 +1,4 @@
-ghost use Rattle.std.specs.Prelude.{◌≡◌, true, false, length, ℤ, ◌+ℤ◌, Some, None, ◌≢◌};
+ghost use Rattle.std.specs.Prelude.{◌≡◌, true, length, ℤ, ◌+ℤ◌, Some, None, ◌≢◌};
 ghost use Rattle.std.specs.Int.{int_wrap, w32};
 ghost use Rattle.sets.specs.Areas.{size_of};
 ghost use Rattle.stages.specs.Plain.{plain_lift};
@@ -12,14 +12,14 @@ use crate::low_bits::low_bits;
 fn double(x: i32) -> i32
     ensures { result ≡ int_wrap w32 (x +ℤ x) }
 {
-    low_bits(x as i64 + x as i64)
+    low_bits(i64::from(x) + i64::from(x))
 }
 
 // The number of which a sample is the double.
 fn half(x: i32) -> Option<i32>
     ensures { elim result [ Some y ↦ y +ℤ y ≡ x | None ↦ ((y : ℤ) → y +ℤ y ≢ x) ] }
 {
-    if x % 2 == 0 { Some(x / 2) } else { None }
+    (x % 2 == 0).then_some(x / 2)
 }
 
 // The samples of such lines are evenly spaced, and are walked in place. Doubling and halving are two loops, since only halving can fail.
@@ -37,21 +37,18 @@ impl Lifting {
         }
     }
 
-    // Halves the samples of lines of one odd index. False where one is odd, and then the area may hold anything.
-    pub(crate) fn halve_lone(&self, area: &mut [i32]) -> bool
+    // Halves the samples of lines of one odd index. None where one is odd, and then the area may hold anything.
+    pub(crate) fn halve_lone(&self, area: &mut [i32]) -> Option<()>
         requires lone { lone_odd self.now.shape (plain_lift self.now.lift) ≡ true }
         requires long { length area.old ≡ size_of self.now.shape }
-        ensures even { result ≡ true → Halved self.now.shape (plain_lift self.now.lift) area.old area.new }
-        ensures odd { result ≡ false → NoHalf self.now.shape (plain_lift self.now.lift) area.old }
+        ensures even { result ≡ Some tt → Halved self.now.shape (plain_lift self.now.lift) area.old area.new }
+        ensures odd { result ≡ None → NoHalf self.now.shape (plain_lift self.now.lift) area.old }
     {
         let lines = self.along_time();
         for i in 0..lines.line_count {
             let a = lines.start + i * lines.apart;
-            let Some(x) = half(area[a]) else {
-                return false;
-            };
-            area[a] = x;
+            area[a] = half(area[a])?;
         }
-        true
+        Some(())
     }
 }

@@ -19,6 +19,7 @@ struct Colours {
 }
 
 // The second sample again, from the luma and the two differences.
+// Casts: tried `i64::from`, and the proof of the bounds didn't close with it.
 fn middle_of(luma: i32, one: i32, other: i32) -> i32
     ensures { result ≡ int_wrap w32 (luma -ℤ floor_over (one +ℤ other) 2) }
 {

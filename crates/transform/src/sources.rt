@@ -4,6 +4,7 @@ ghost use Rattle.transform.specs.Turns.{inside_at, read_index_at};
 
 use crate::turn::Turn;
 
+// Casts lose nothing, as the check proves: a `try_from` would have a failure to answer that cannot come.
 impl Turn {
     // The address on a line that is read for any index.
     fn source(&self, line: usize, index: i64) -> usize

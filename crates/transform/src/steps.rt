@@ -7,6 +7,7 @@ use crate::long_lines::LongLines;
 use crate::turn::Turn;
 use stages::stage::{Parity, Step};
 
+// The functions on areas ask for the length of the sets: a type of both would have to hold the lent area.
 impl LongLines {
     // The parity that step k changes: the steps change the parities in turn.
     fn parity(&self, k: usize) -> Parity

@@ -9,6 +9,7 @@ use crate::row::Row;
 use stages::product::product;
 
 // A sample with a quotient added, or to undo taken away, in 32 bits that wrap.
+// UNDO is known when this is compiled, so that the inner loop has no branch.
 fn turned<const UNDO: bool>(x: i32, q: i64) -> i32
     requires { (neg_ℤ (pos (2 ^ 50)) ≤ℤ q) × (q ≤ℤ pos (2 ^ 50)) }
     ensures { result ≡ int_wrap w32 (turned_by UNDO x q) }
@@ -16,6 +17,7 @@ fn turned<const UNDO: bool>(x: i32, q: i64) -> i32
     low_bits(if UNDO { x as i64 - q } else { x as i64 + q })
 }
 
+// Each function asks for the number of taps and the room: a type that holds N would be made anew in each of the nine arms below.
 impl Row {
     // The quotient of the samples that are read, each address moved on by `shift`; N is the number of taps.
     fn quotient_at<const N: usize>(&self, shift: usize, area: &[i32]) -> i64
@@ -46,7 +48,7 @@ impl Row {
         area[self.to + shift] = turned::<UNDO>(area[self.to + shift], q);
     }
 
-    // Changes each sample. The number of taps is known when the loop is compiled, and two samples are changed in a turn.
+    // Changes each sample. The number of taps is known when the loop is compiled.
     fn turn_taps<const UNDO: bool, const N: usize>(&self, area: &mut [i32])
         requires known { self.now.quotient.tap_count ≡ N }
         requires fitted { Fitted self.now (length area.old) }
@@ -54,6 +56,7 @@ impl Row {
     {
         // An own copy, which no write to the area can change: the compiler then keeps it in registers.
         let row = *self;
+        // Two samples in a turn: two are faster than one.
         for i in 0..row.count / 2 {
             row.turn_one::<UNDO, N>(2 * i, area);
             row.turn_one::<UNDO, N>(2 * i + 1, area);

@@ -8,6 +8,8 @@ ghost use Rattle.transform.specs.Work.{Applied, TakenBack};
 use sets::shape::Shape;
 
 // What a kind of stage does to areas of samples, in place.
+// Shape and area come apart, as a rack's calls pass them, and each function asks that they fit: a type of both would have to hold the
+// lent area.
 pub(crate) trait Work {
     // The stage by its words and numbers.
     ghost kind: { Self → Plain };
@@ -20,6 +22,7 @@ pub(crate) trait Work {
         ensures { Applied shape.now (kind self.now) area.old area.new };
 
     // Turns an area back into the only set that can give it. False where none can: then the area holds anything.
+    // A flag is the whole answer, as in `Stages::backward`.
     fn take_back(&self, shape: &Shape, area: &mut [i32]) -> bool
         requires shape { in_limits shape.now ≡ true }
         requires fit { fits_in (kind self.now) shape.now.channels ≡ true }
