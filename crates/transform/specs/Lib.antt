@@ -1,6 +1,7 @@
 pub mod Turned
 pub mod Apart
 pub mod Rowed
+pub mod Runs
 pub mod DepRows
 pub mod Colours
 pub mod Indices

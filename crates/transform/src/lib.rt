@@ -17,6 +17,7 @@ mod low_bits;
 mod rct;
 mod rct_work;
 mod row;
+mod run;
 mod runs;
 mod sources;
 mod stage_work;

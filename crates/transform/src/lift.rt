@@ -4,6 +4,7 @@ ghost use Rattle.transform.specs.Turned.{Turned};
 ghost use Rattle.transform.specs.Turns.{Sized, Hits, TurnedAt, pass_of, at_position, from_to};
 
 use crate::row::Row;
+use crate::run::Run;
 use crate::turn::Turn;
 use stages::stage::Axis;
 
@@ -58,10 +59,14 @@ impl Turn {
             self.positions::<UNDO>(from, end, area);
             return;
         }
-        let count = (end - start - MARGIN) / 2;
+        let run = Run {
+            turn: *self,
+            start,
+            count: (end - start - MARGIN) / 2,
+        };
         self.positions::<UNDO>(from, start, area);
-        self.runs::<UNDO>(start, count, area);
-        self.positions::<UNDO>(start + 2 * count, end, area);
+        run.on_all::<UNDO>(area);
+        self.positions::<UNDO>(start + 2 * run.count, end, area);
     }
 
     // The step at all positions of its parity.
