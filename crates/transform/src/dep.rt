@@ -8,6 +8,7 @@ ghost use Rattle.transform.specs.Turned.{Turned, Forth, Back};
 use crate::dep_rows::DepRows;
 use crate::row::Row;
 use stages::quotient::Quotient;
+use std::array;
 
 // The functions on areas ask for the length of the sets: a type of both would have to hold the lent area.
 impl DepRows {
@@ -26,11 +27,7 @@ impl DepRows {
     fn starts(&self) -> [usize; 8]
         ensures { (j : ℕ) → j < 8 → slice_index result j ≡ (self.now.dep.first + j) * self.now.shape.samples }
     {
-        let mut from = [0; 8];
-        for (j, address) in from.iter_mut().enumerate() {
-            *address = (self.dep.first + j) * self.shape.samples;
-        }
-        from
+        array::from_fn(|j| (self.dep.first + j) * self.shape.samples)
     }
 
     // Takes the quotient of row i, from 1 up, away from the samples of its channel, or adds it to them again.
