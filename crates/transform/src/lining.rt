@@ -1,4 +1,4 @@
-ghost use Rattle.std.specs.Prelude.{◌≡◌, ◌^◌, ◌≤◌};
+ghost use Rattle.std.specs.Prelude.{◌≡◌, ◌≤◌};
 ghost use Rattle.rules.specs.Lifted.{count_of};
 ghost use Rattle.stages.specs.Plain.{plain_lift};
 ghost use Rattle.transform.specs.Lined.{Lined};
@@ -7,16 +7,7 @@ ghost use Rattle.stages.specs.declared.stage.Axis.TheVariants.{Time, Channel};
 use crate::lifting::Lifting;
 use crate::lines::Lines;
 use crate::long_lines::LongLines;
-use stages::stage::{Axis, Lift};
-
-// The distance of two indices of a line, in places.
-fn distance(lift: &Lift) -> usize
-    ensures value { result ≡ 2 ^ lift.now.level }
-    ensures some { 1 ≤ result }
-    ensures small { result ≤ 32768 }
-{
-    1 << lift.level
-}
+use stages::stage::Axis;
 
 // Casts lose nothing, as the check proves: a `try_from` would have a failure to answer that cannot come.
 impl Lifting {
@@ -25,7 +16,7 @@ impl Lifting {
         requires { self.now.lift.axis ≡ Time }
         ensures { Lined self.now.shape (plain_lift self.now.lift) result }
     {
-        let by = distance(&self.lift);
+        let by = self.lift.distance();
         let first = self.lift.first_index(self.shape.origin as u32);
         Lines {
             start: self.lift.first * self.shape.samples + (first * by - self.shape.origin),
@@ -47,7 +38,7 @@ impl Lifting {
     {
         Lines {
             start: self.lift.first * self.shape.samples,
-            by: distance(&self.lift) * self.shape.samples,
+            by: self.lift.distance() * self.shape.samples,
             line_count: self.shape.samples,
             apart: 1,
             first: self.lift.first_index(0),
