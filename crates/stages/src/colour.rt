@@ -14,6 +14,5 @@ pub fn quarter(sum: i64) -> i64
 pub fn luma(a: i32, b: i32, c: i32) -> i64
     ensures { result ≡ floor_over (a +ℤ (pos 2 *ℤ b +ℤ c)) 2 }
 {
-    // Widened by `as`: tried `i64::from`, and the proof didn't close at the sums.
-    quarter(a as i64 + (2 * b as i64 + c as i64))
+    quarter(i64::from(a) + (2 * i64::from(b) + i64::from(c)))
 }

@@ -5,14 +5,12 @@ use crate::reach::Reach;
 use sets::span::Span;
 
 // A tap times a sample.
-#[tactic(auto, using(crate::proofs::Products::product_small, crate::proofs::Products::product_back))]
 pub fn product(a: i16, b: i32) -> i64
     ensures value { result ≡ a *ℤ b }
     ensures low { neg_ℤ (pos (2 ^ 46)) ≤ℤ result }
     ensures high { result ≤ℤ pos (2 ^ 46) }
 {
-    // Widened by `as`: tried `i64::from`, and the proof didn't close at the product.
-    a as i64 * b as i64
+    i64::from(a) * i64::from(b)
 }
 
 // The least and the greatest of a tap times a sample of the span.

@@ -21,10 +21,9 @@ pub(crate) fn narrowed(least: i64, greatest: i64) -> Option<Span>
 pub(crate) fn raise(span: &Span, by: &Reach) -> Option<Span>
     ensures { Narrowed result (raised (bounds_of span.now) (wide_of by.now)) }
 {
-    // Widened by `as`: tried `i64::from`, and the proof didn't close at the sums.
     narrowed(
-        span.least as i64 + by.least,
-        span.greatest as i64 + by.greatest,
+        i64::from(span.least) + by.least,
+        i64::from(span.greatest) + by.greatest,
     )
 }
 

@@ -11,7 +11,7 @@ impl Step {
         ensures high { result ≤ℤ pos (2 ^ 36) }
     {
         let other = 1 - parity.number();
-        // Widened by `as`: tried `i64::from`, and the proof didn't close at the sums.
-        2 * ((index / 2) as i64 + (self.offset as i64 + tap as i64)) + other as i64
+        // Casts lose nothing, as the check proves: a `try_from` would have a failure to answer that cannot come.
+        2 * (i64::from(index / 2) + (i64::from(self.offset) + i64::from(tap))) + other as i64
     }
 }

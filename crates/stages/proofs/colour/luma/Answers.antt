@@ -14,4 +14,7 @@ returns c =
     let part : SFits w64 (pos 2 *ℤ c.args.b +ℤ c.args.c) = omega (arith, ints) in
     let sum : SFits w64 (c.args.a +ℤ (pos 2 *ℤ c.args.b +ℤ c.args.c)) = omega (arith, ints) in
     let r : SFits w64 c.quarter.result = search rules in
-    to_z-of_z w64 _ r ∙ simp to_z-of_z at c.quarter.ensures
+    to_z-of_z w64 _ r ∙ simp (to_z-of_z, c.from.ensures, c.from-2.ensures, c.from-3.ensures) at c.quarter.ensures
+
+pub overflow_add-from-2 : goal.overflow_add-from-2
+overflow_add-from-2 c = omega (arith, ints, c.from.ensures, c.from-2.ensures, c.from-3.ensures, c.ranges.a, c.ranges.b, c.ranges.c)

@@ -14,4 +14,4 @@ returns c =
     let by_high : SFits w64 b.greatest = search rules in
     let sum_low : SFits w64 (s.least +ℤ b.least) = omega (arith, ints) in
     let sum-high : SFits w64 (s.greatest +ℤ b.greatest) = omega (arith, ints) in
-    simp to_z-of_z at c.narrowed.ensures
+    simp (to_z-of_z, c.from.ensures, c.from-2.ensures) at c.narrowed.ensures
