@@ -51,6 +51,14 @@ fn size_at(values: &[i32], k: usize) -> usize {
         .unwrap_or(0)
 }
 
+fn shape(values: &[i32]) -> Shape {
+    Shape {
+        channels: size_at(values, 0),
+        samples: size_at(values, 1),
+        origin: size_at(values, 2),
+    }
+}
+
 fn span_list(values: &[i32]) -> Result<SpanList, Refusal> {
     let mut spans = SpanList::new();
     for pair in values.chunks(2) {
@@ -61,6 +69,7 @@ fn span_list(values: &[i32]) -> Result<SpanList, Refusal> {
     Ok(spans)
 }
 
+// Functions, here and below: `Result` and `SpanList` are other crates' types, each printed in one way here only.
 fn write_answer<W: Write>(out: &mut W, answer: Result<(), Refusal>) -> io::Result<()> {
     match answer {
         Ok(()) => write!(out, "ok"),
@@ -69,9 +78,8 @@ fn write_answer<W: Write>(out: &mut W, answer: Result<(), Refusal>) -> io::Resul
 }
 
 fn write_spans<W: Write>(out: &mut W, spans: &SpanList) -> io::Result<()> {
-    for span in (0..spans.len()).filter_map(|channel| spans.get(channel)) {
-        let least = span.least;
-        let greatest = span.greatest;
+    // A list hands out its rows one by one.
+    for Span { least, greatest } in (0..spans.len()).filter_map(|channel| spans.get(channel)) {
         write!(out, ",{least},{greatest}")?;
     }
     writeln!(out)
@@ -104,6 +112,7 @@ fn call<R: Rack, W: Write>(
     number: usize,
     lent: &mut Lent,
 ) -> io::Result<()> {
+    // Words are matched where they are obeyed: an enum of calls would name each twice more.
     match word {
         "COUNT" => {
             let count = rack.count();
@@ -155,24 +164,19 @@ fn obey<W: Write>(
     let word = head.split(',').next().unwrap_or("");
     let values = numbers(heap, head)?;
     match word {
-        "SHAPE" => {
-            lent.shape = Shape {
-                channels: size_at(values.as_slice(), 0),
-                samples: size_at(values.as_slice(), 1),
-                origin: size_at(values.as_slice(), 2),
-            };
+        "SHAPE" => lent.shape = shape(values.as_slice()),
+        "SPANS" => {
+            lent.spans = span_list(values.as_slice()).map_err(|_| anyhow!(
+                "bad spans in the script"
+            ))?;
         }
-        "SPANS" => match span_list(values.as_slice()) {
-            Ok(spans) => lent.spans = spans,
-            Err(_) => return Err(anyhow!("bad spans in the script")),
-        },
         "AREA" => lent.area = values,
         "RECIPE" => {
             let text = recipe_text(heap, line)?;
             let mut recipe = Recipe::new();
-            if recipe.read(text.as_bytes()).is_err() {
-                return Err(anyhow!("bad recipe in the script"));
-            }
+            recipe
+                .read(text.as_bytes())
+                .map_err(|_| anyhow!("bad recipe in the script"))?;
             *called = Called::Recipe(recipe);
         }
         "CLASSIC" => *called = Called::Classic,
@@ -187,9 +191,7 @@ fn obey<W: Write>(
     Ok(())
 }
 
-fn run(rt: &HostRuntime) -> anyhow::Result<()> {
-    let mut text = String::new(rt.alloc());
-    rt.stdin().read_to_string(&mut text)?;
+fn run<W: Write>(heap: Global, out: &mut W, script: &str) -> anyhow::Result<()> {
     let mut lent = Lent {
         shape: Shape {
             channels: 1,
@@ -197,17 +199,20 @@ fn run(rt: &HostRuntime) -> anyhow::Result<()> {
             origin: 0,
         },
         spans: SpanList::new(),
-        area: Vec::new(rt.alloc()),
+        area: Vec::new(heap),
     };
     let mut called = Called::Recipe(Recipe::new());
-    let mut out = BufWriter::new(rt.alloc(), rt.stdout())?;
-    for line in text.as_str().lines() {
-        obey(rt.alloc(), &mut out, line, &mut called, &mut lent)?;
+    for line in script.lines() {
+        obey(heap, out, line, &mut called, &mut lent)?;
     }
-    out.flush()?;
     Ok(())
 }
 
 fn main(rt: HostRuntime) -> anyhow::Result<()> {
-    run(&rt)
+    let mut script = String::new(rt.alloc());
+    rt.stdin().read_to_string(&mut script)?;
+    let mut out = BufWriter::new(rt.alloc(), rt.stdout())?;
+    run(rt.alloc(), &mut out, script.as_str())?;
+    out.flush()?;
+    Ok(())
 }

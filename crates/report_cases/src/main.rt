@@ -13,6 +13,7 @@ fn first_text(bytes: &[u8]) -> (&[u8], &[u8]) {
         .position(|b| *b == b'\n')
         .unwrap_or(bytes.len());
     let (digits, rest) = bytes.split_at(end);
+    // As many digits as stand there, capped: `parse` would refuse a longer number.
     let size = digits.iter().fold(0usize, |size, b| {
         size.saturating_mul(10)
             .saturating_add(usize::from(b.saturating_sub(b'0')))
@@ -34,6 +35,7 @@ fn main(rt: HostRuntime) -> io::Result<()> {
     rt.stdin().read_to_end(&mut all)?;
     let mut out = BufWriter::new(rt.alloc(), rt.stdout())?;
     let mut rest = all.as_slice();
+    // A bound, since only `first_text` knows that the rest gets shorter.
     for case in 0..100000 {
         if rest.is_empty() {
             break;

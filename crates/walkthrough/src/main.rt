@@ -13,6 +13,7 @@ use sets::span::Span;
 use sets::span_list::SpanList;
 use stages::table::Table;
 use std::alloc::Global;
+use std::rt::{Env, Files};
 use std::{env, fs};
 use transform::bank::Bank;
 
@@ -62,30 +63,29 @@ fn one_span_each(least: i32, greatest: i32, channels: usize) -> Result<SpanList,
 
 // What a refusal says of a recording.
 fn told(refusal: Refusal) -> anyhow::Error {
-    match refusal {
-        Refusal::BadShape => anyhow!("refused 1: a number of the shape is outside its limits"),
-        Refusal::SpanCount => anyhow!("refused 2: not one span for each channel"),
-        Refusal::AreaLength => anyhow!("refused 4: the samples are not as many as the shape says"),
-        Refusal::DoesNotFit => anyhow!("refused 8: a stage does not fit the set"),
-        Refusal::TooWide => anyhow!("refused 9: a stage makes the spans too wide"),
-        Refusal::OutsideSpan => anyhow!("refused 10: a sample is outside its span"),
-        Refusal::Foreign => anyhow!(
-            "refused 11: no recording within the spans gives these samples"
-        ),
-        _ => anyhow!("refused"),
-    }
+    let cause = match refusal {
+        Refusal::BadShape => "a number of the shape is outside its limits",
+        Refusal::SpanCount => "not one span for each channel",
+        Refusal::AreaLength => "the samples are not as many as the shape says",
+        Refusal::DoesNotFit => "a stage does not fit the set",
+        Refusal::TooWide => "a stage makes the spans too wide",
+        Refusal::OutsideSpan => "a sample is outside its span",
+        Refusal::Foreign => "no recording within the spans gives these samples",
+        _ => return anyhow!("refused"),
+    };
+    anyhow!("refused {refusal}: {cause}")
 }
 
 // Reads the text of a set: SET,channels,samples,origin,least,greatest and then a line of samples for each channel.
 fn read_set(heap: Global, text: &str) -> anyhow::Result<Recording> {
     let mut head = Vec::new(heap);
     let mut samples = Vec::new(heap);
-    for (place, line) in text.lines().enumerate() {
-        if place > 0 {
-            add_numbers(&mut samples, line)?;
-        } else if let Some(fields) = line.strip_prefix("SET,") {
-            add_numbers(&mut head, fields)?;
-        }
+    let mut lines = text.lines();
+    if let Some(fields) = lines.next().and_then(|line| line.strip_prefix("SET,")) {
+        add_numbers(&mut head, fields)?;
+    }
+    for line in lines {
+        add_numbers(&mut samples, line)?;
     }
     let head = head.as_slice();
     let shape = Shape {
@@ -101,31 +101,6 @@ fn read_set(heap: Global, text: &str) -> anyhow::Result<Recording> {
     })
 }
 
-// The spans of all channels, and the first samples of each.
-fn show_channels(
-    rt: &impl Print,
-    shape: &Shape,
-    spans: &SpanList,
-    area: &[i32],
-) -> anyhow::Result<()> {
-    for channel in 0..shape.channels {
-        if let Some(span) = spans.get(channel) {
-            let least = span.least;
-            let greatest = span.greatest;
-            print!(rt; "  channel {channel}, {least} to {greatest}:")?;
-        }
-        for x in area
-            .iter()
-            .skip(channel.saturating_mul(shape.samples))
-            .take(SHOWN)
-        {
-            print!(rt; " {x}")?;
-        }
-        println!(rt; " ..")?;
-    }
-    Ok(())
-}
-
 // A rack, and the shape of the set that is taken through its stages.
 #[derive(Drop)]
 struct Course<R> {
@@ -134,6 +109,24 @@ struct Course<R> {
 }
 
 impl<R: Rack> Course<R> {
+    // The spans of all channels, and the first samples of each.
+    fn show_channels(&self, rt: &impl Print, spans: &SpanList, area: &[i32]) -> anyhow::Result<()> {
+        for channel in 0..self.shape.channels {
+            if let Some(Span { least, greatest }) = spans.get(channel) {
+                print!(rt; "  channel {channel}, {least} to {greatest}:")?;
+            }
+            for x in area
+                .iter()
+                .skip(channel.saturating_mul(self.shape.samples))
+                .take(SHOWN)
+            {
+                print!(rt; " {x}")?;
+            }
+            println!(rt; " ..")?;
+        }
+        Ok(())
+    }
+
     fn show_list(&self, rt: &impl Print, stage: usize) -> anyhow::Result<()> {
         let mut list = [0; 64];
         let count = self.rack.list(&self.shape, stage, &mut list).map_err(told)?;
@@ -148,7 +141,7 @@ impl<R: Rack> Course<R> {
     // Applies every stage.
     fn apply_all(
         &self,
-        rt: &HostRuntime,
+        rt: &(impl AllocGlobal + Print),
         first: &SpanList,
         area: &mut [i32],
     ) -> anyhow::Result<Widths> {
@@ -163,7 +156,7 @@ impl<R: Rack> Course<R> {
             self.rack
                 .spans(&self.shape, stage, &mut spans)
                 .map_err(told)?;
-            show_channels(rt, &self.shape, &spans, area)?;
+            self.show_channels(rt, &spans, area)?;
         }
         Ok(Widths {
             before,
@@ -172,6 +165,7 @@ impl<R: Rack> Course<R> {
     }
 
     // Undoes every stage, the last first, with the spans before it.
+    // Whether all came back: the refusal is printed where it is met.
     fn undo_all(
         &self,
         rt: &impl Print,
@@ -200,7 +194,11 @@ fn damage(shape: &Shape, after: &SpanList, image: &mut [i32]) {
     }
 }
 
-fn walk(rt: &HostRuntime, recording: &Recording, recipe: Recipe) -> anyhow::Result<()> {
+fn walk(
+    rt: &(impl AllocGlobal + Print),
+    recording: &Recording,
+    recipe: Recipe,
+) -> anyhow::Result<()> {
     let Shape {
         channels,
         samples,
@@ -211,12 +209,7 @@ fn walk(rt: &HostRuntime, recording: &Recording, recipe: Recipe) -> anyhow::Resu
         rack: Bank { table: recipe },
         shape: recording.shape,
     };
-    show_channels(
-        rt,
-        &course.shape,
-        &recording.spans,
-        recording.samples.as_slice(),
-    )?;
+    course.show_channels(rt, &recording.spans, recording.samples.as_slice())?;
     let mut area = recording.samples.clone()?;
     let widths = course.apply_all(rt, &recording.spans, area.as_mut_slice())?;
     let mut image = area.clone()?;
@@ -237,7 +230,7 @@ fn walk(rt: &HostRuntime, recording: &Recording, recipe: Recipe) -> anyhow::Resu
     Ok(())
 }
 
-fn run(rt: &HostRuntime) -> anyhow::Result<()> {
+fn run(rt: &(impl AllocGlobal + Env + Files + Print)) -> anyhow::Result<()> {
     let heap = rt.alloc();
     let mut paths = env::args(rt)?.skip(1);
     let (Some(set_path), Some(recipe_path)) = (paths.next(), paths.next()) else {
