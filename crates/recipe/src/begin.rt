@@ -23,7 +23,7 @@ impl Recipe {
     pub(crate) fn stage_line(&self, line: &Line) -> Result<Begun, Fault>
         ensures { Opens (table_of self.now) line.now result }
     {
-        // No match on the words: it parts them byte by byte, and the last arm, reached in twelve ways, asks for a proof of each.
+        // No match on the words: tried, and it reaches its last arm in twelve ways, byte by byte, where a proof cannot name the word.
         if line.begins(b"LIFT") {
             self.check_start(line, 7)?;
             return lift_line(line);
