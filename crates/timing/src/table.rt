@@ -7,6 +7,7 @@ use classic::table::five_three;
 use stages::quotient::Quotient;
 use stages::stage::{Axis, Dep, Rct, Stage};
 use stages::table::Table;
+use std::array;
 
 // The stages that are timed, by the numbers under which C asks for them.
 #[derive(Clone, Copy)]
@@ -32,15 +33,7 @@ fn small_rows() -> Stage
     Stage::Dep(Dep {
         first: 0,
         count: 8,
-        rows: [
-            small_row(1),
-            small_row(2),
-            small_row(3),
-            small_row(4),
-            small_row(5),
-            small_row(6),
-            small_row(7),
-        ],
+        rows: array::from_fn(|k| small_row(k + 1)),
     })
 }
 
