@@ -13,6 +13,10 @@ abbrev pub unless : Bool → Refusal → Option Refusal → Option Refusal
 unless true e rest = rest
 unless false e rest = Some e
 
+-- a shape beyond its limits, not one span for each channel, and then the rest
+abbrev pub shape_refused : Shape → List Bounds → Option Refusal → Option Refusal
+shape_refused f bs rest = unless (in_limits f) BadShape (unless (length bs == f.channels) SpanCount rest)
+
 -- no such stage, a stage that does not fit, and then the rest
 abbrev pub stage_refused : Meaning → Shape → ℕ → Option Refusal → Option Refusal
 stage_refused m f k rest = unless (nat_lt k m.stages) NoSuchStage (unless (m.fits f.channels k) DoesNotFit rest)
@@ -25,11 +29,10 @@ unfoldable pub list_refused : Meaning → Shape → ℕ → Option Refusal
 list_refused m f k = unless (in_limits f) BadShape (stage_refused m f k None)
 
 unfoldable pub spans_refused : Meaning → Shape → ℕ → List Bounds → Option Refusal
-spans_refused m f k bs = unless (in_limits f) BadShape (unless (length bs == f.channels) SpanCount (stage_refused m f k (width_refused m f k bs)))
+spans_refused m f k bs = shape_refused f bs (stage_refused m f k (width_refused m f k bs))
 
 unfoldable pub area_refused : Meaning → Shape → ℕ → List Bounds → ℕ → Option Refusal
-area_refused m f k bs n =
-    unless (in_limits f) BadShape (unless (length bs == f.channels) SpanCount (unless (n == size_of f) AreaLength (stage_refused m f k (width_refused m f k bs))))
+area_refused m f k bs n = shape_refused f bs (unless (n == size_of f) AreaLength (stage_refused m f k (width_refused m f k bs)))
 
 abbrev pub answered : Option Refusal → Result Unit Refusal
 answered None = Ok tt

@@ -1,12 +1,23 @@
 ghost use Rattle.std.specs.Prelude.{◌≡◌, None};
 ghost use Rattle.sets.specs.Sets.{rows_of};
-ghost use Rattle.rack.specs.Calls.{answered, stage_refused, area_refused, Lists, Widens, Applies, Undoes};
+ghost use Rattle.rack.specs.Calls.{answered, shape_refused, stage_refused, area_refused, Lists, Widens, Applies, Undoes};
 ghost use Rattle.rack.specs.Of.{meaning};
 
 use crate::stages::Stages;
 use sets::refusal::Refusal;
 use sets::shape::Shape;
 use sets::span_list::SpanList;
+
+// Refused where the shape is beyond its limits, or there is not one span for each channel.
+fn one_span_each(shape: &Shape, spans: &SpanList) -> Result<(), Refusal>
+    ensures { result ≡ answered (shape_refused shape.now (rows_of spans.now) None) }
+{
+    shape.check()?;
+    if spans.len() != shape.channels {
+        return Err(Refusal::SpanCount);
+    }
+    Ok(())
+}
 
 // The calls that every rack answers, for all values. They are the same for every rack, so that a rack is its stages.
 // Shape, number, spans and area are passed apart: the caller keeps them in different places, and each call lends others of them.
@@ -35,10 +46,7 @@ pub trait Rack: Stages {
     ) -> Result<(), Refusal>
         ensures { result ≡ answered (area_refused (meaning Self.Stages self.now) shape.now number (rows_of spans.now) size) }
     {
-        shape.check()?;
-        if spans.len() != shape.channels {
-            return Err(Refusal::SpanCount);
-        }
+        one_span_each(shape, spans)?;
         if size != shape.channels * shape.samples {
             return Err(Refusal::AreaLength);
         }
@@ -71,10 +79,7 @@ pub trait Rack: Stages {
     fn spans(&self, shape: &Shape, number: usize, spans: &mut SpanList) -> Result<(), Refusal>
         ensures { Widens (meaning Self.Stages self.now) shape.now number (rows_of spans.old) result (rows_of spans.new) }
     {
-        shape.check()?;
-        if spans.len() != shape.channels {
-            return Err(Refusal::SpanCount);
-        }
+        one_span_each(shape, spans)?;
         self.asked(shape, number)?;
         *spans = self.widen(shape, number, spans).ok_or(Refusal::TooWide)?;
         Ok(())
