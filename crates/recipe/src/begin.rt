@@ -23,7 +23,7 @@ impl Recipe {
     pub(crate) fn stage_line(&self, line: &Line) -> Result<Begun, Fault>
         ensures { Opens (table_of self.now) line.now result }
     {
-        // No match on the words: tried, and it reaches its last arm in twelve ways, byte by byte, where a proof cannot name the word.
+        // Tried: a match on the words goes byte by byte, and in its last arm a proof had no name for the word.
         if line.begins(b"LIFT") {
             self.check_start(line, 7)?;
             return lift_line(line);
