@@ -64,6 +64,8 @@ pub trait Rack: Stages {
         shape.check()?;
         self.asked(shape, number)?;
         // Counted by hand: n is the next free place and the answer, and a chain would count the places beside its items too.
+        // Tried `filter` in the loop's head: the proof didn't close, as no index then tells which channels were passed over.
+        // Casts lose nothing, as the check proves: a `try_from` would have a failure to answer that cannot come.
         let mut n = 0;
         for c in 0..shape.channels {
             if self.lists(shape, number, c) {
