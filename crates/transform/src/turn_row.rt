@@ -10,6 +10,7 @@ use stages::product::product;
 
 // A sample with a quotient added, or to undo taken away, in 32 bits that wrap.
 // UNDO is known when this is compiled, so that the inner loop has no branch.
+// Widened by `as` here and in `quotient_at`: the inner loop is kept as it was timed.
 fn turned<const UNDO: bool>(x: i32, q: i64) -> i32
     requires { (neg_ℤ (pos (2 ^ 50)) ≤ℤ q) × (q ≤ℤ pos (2 ^ 50)) }
     ensures { result ≡ int_wrap w32 (turned_by UNDO x q) }
