@@ -35,6 +35,7 @@ struct Lent {
     area: Vec<i32>,
 }
 
+// Near to what `walkthrough` does, which refuses what is read as 0 here: programs share no crate.
 fn numbers(heap: Global, head: &str) -> anyhow::Result<Vec<i32>> {
     let mut all = Vec::new(heap);
     for field in head.split(',').skip(1) {
@@ -95,10 +96,11 @@ fn write_area<W: Write>(out: &mut W, area: &[i32]) -> io::Result<()> {
 // The listed channels, and behind them what stood in the list before, which must stay.
 fn write_list<W: Write>(out: &mut W, list: &[u8; 64], count: usize) -> io::Result<()> {
     write!(out, "listed")?;
-    for (place, channel) in list.iter().enumerate() {
-        if place < count {
-            write!(out, ",{channel}")?;
-        } else if *channel != 255 {
+    for channel in list.iter().take(count) {
+        write!(out, ",{channel}")?;
+    }
+    for (place, channel) in list.iter().enumerate().skip(count) {
+        if *channel != 255 {
             write!(out, ",changed at {place}")?;
         }
     }

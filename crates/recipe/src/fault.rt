@@ -16,7 +16,7 @@ pub enum Cause {
 }
 
 impl Cause {
-    // The number by which the cause is known.
+    // The number by which the cause is known. A method, and no `From`: callers read which number it is.
     pub fn number(self) -> u8
         ensures { result ≡ number_of self }
     {
@@ -24,7 +24,7 @@ impl Cause {
     }
 }
 
-// A cause is shown by its number.
+// A cause is shown by its number. Like `Refusal`, by an impl of its own: `Display` belongs to each type.
 impl fmt::Display for Cause {
     ghost output = { λ cause. Some (decimal (number_of cause)) };
 
@@ -34,10 +34,11 @@ impl fmt::Display for Cause {
     }
 }
 
-// A fault of a text, with the line and the field where it stands, both from 1; field 0 is the whole line.
+// A fault of a text, with the line and the field where it stands, both from 1. Line 0 is the whole text and field 0 the whole line:
+// numbers and no Option, since a report shows them.
 #[derive(Clone, Copy)]
 pub struct Fault {
     pub cause: Cause,
     pub line: usize,
-    pub field: usize, // 0 and no Option: a report shows the number
+    pub field: usize,
 }

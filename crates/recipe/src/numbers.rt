@@ -2,7 +2,8 @@ ghost use Rattle.std.specs.Prelude.{◌≡◌, min};
 ghost use Rattle.recipe.specs.Fields.{read_on, value_of};
 ghost use Rattle.recipe.specs.Promises.{capped, within};
 
-// The number that digits write, or 4,294,967,295 for any above: no limit is as high.
+// The number that digits write, or 4,294,967,295 for any above: no limit is as high. By hand, since `parse` takes text and refuses
+// a number that is too high.
 fn magnitude(digits: &[u8]) -> u32
     ensures { result ≡ min (read_on 0 digits.now) 4294967295 }
 {
@@ -22,7 +23,7 @@ fn value(number: &[u8]) -> i64
     }
 }
 
-// The value of a number, if it lies between the limits.
+// The value of a number, if it lies between the limits: two numbers, as in `Line::number`.
 pub(crate) fn value_within(number: &[u8], least: i32, greatest: i32) -> Option<i32>
     ensures { result ≡ within least greatest (value_of number.now) }
 {

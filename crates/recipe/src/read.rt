@@ -18,7 +18,7 @@ pub(crate) fn recipe_from(mut lines: Lines<'_>) -> Result<Recipe, Fault>
         recipe: Recipe::new(),
         left: 0,
     };
-    // `while let`, and no `Iterator`: what is left behind the last line feed is looked at after the loop.
+    // No `Iterator`: a `for` would take the lines, which are looked at after the loop.
     while let Some(line) = lines.next_line() {
         reading.take(&line)?;
     }

@@ -25,7 +25,7 @@ impl Reading {
         requires { 0 < self.old.left }
         ensures { Takes (so_far self.old) line.now (so_far self.new) result }
     {
-        // The stage is taken out and put back: of one that is borrowed while its line may be refused, no proof is made.
+        // Tried a `&mut` to the stage in the table: the proof didn't close, since the check does not cover such a function.
         let last = self.recipe.len - 1;
         let stage = grown(self.recipe.stages[last], line)?;
         self.left -= 1;

@@ -22,6 +22,7 @@ fn first_text(bytes: &[u8]) -> (&[u8], &[u8]) {
     text.split_at(size.min(text.len()))
 }
 
+// As the program `report` prints it: programs share no crate.
 fn write_report<W: Write>(heap: Global, out: &mut W, text: &[u8]) -> io::Result<()> {
     let lines = report(heap, text)?;
     for line in lines.iter() {
@@ -35,7 +36,7 @@ fn main(rt: HostRuntime) -> io::Result<()> {
     rt.stdin().read_to_end(&mut all)?;
     let mut out = BufWriter::new(rt.alloc(), rt.stdout())?;
     let mut rest = all.as_slice();
-    // A bound, since only `first_text` knows that the rest gets shorter.
+    // A bound, since only `first_text` knows that the rest gets shorter: a `while` would need a contract there.
     for case in 0..100000 {
         if rest.is_empty() {
             break;

@@ -8,6 +8,7 @@ use std::fmt;
 // A line of a report: the span of a channel after a stage, or what ends the report: a fault of the text, or a stage that is refused.
 #[derive(Clone, Copy)]
 pub enum Line {
+    // Two numbers and no `Span`: the type is public, and a span would ask for their order.
     Span {
         stage: usize,
         channel: usize,

@@ -48,6 +48,7 @@ fn add_stages(lines: &mut Vec<Line>, request: &Request) -> Result<(), AllocError
     Ok(())
 }
 
+// The answer of `report`, which adds the law to it.
 fn lines_of(heap: Global, text: &[u8]) -> Result<Vec<Line>, AllocError>
     ensures { IfOk result (λ v. v.items ≡ report_lines text.now) }
 {

@@ -7,7 +7,8 @@ use crate::shape::Shape;
 use crate::span_list::SpanList;
 
 impl Bounds {
-    // Whether each sample lies within the bounds. The loop gathers one flag, so that it has no way out.
+    // Whether each sample lies within the bounds: a loop that compares each with the span. It gathers one flag and has no way out, so
+    // that the compiler compares many samples at a time.
     fn hold(&self, samples: &[i32]) -> bool
         ensures { result ≡ every (length samples.now) (λ t. holds self.now (at samples.now t)) }
     {

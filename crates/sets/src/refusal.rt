@@ -22,7 +22,7 @@ pub enum Refusal {
 }
 
 impl Refusal {
-    // The number by which the refusal is known.
+    // The number by which the refusal is known. A method, and no `From`: callers read which number it is.
     pub fn number(self) -> u8
         ensures { result ≡ number_of self }
     {

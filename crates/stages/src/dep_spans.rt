@@ -10,6 +10,7 @@ use crate::stage::Dep;
 use sets::span::Span;
 use sets::span_list::SpanList;
 
+// Stage and spans stay two values, as in `Stage::spans_after`.
 impl Dep {
     // The span of row i, from 1 up.
     fn row_after(&self, spans: &SpanList, i: usize) -> Option<Span>

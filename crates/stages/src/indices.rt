@@ -18,6 +18,7 @@ impl Lift {
         ensures { result ≡ first_index self.now.level place }
     {
         let step = self.distance();
+        // Rounded up as the definition is written: `div_ceil` says it in other words.
         // Casts lose nothing, as the check proves: a `try_from` would have a failure to answer that cannot come.
         (place as usize + (step - 1)) / step
     }

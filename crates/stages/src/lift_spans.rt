@@ -16,7 +16,7 @@ impl Lift {
         (self.first..self.first + self.count).contains(&channel)
     }
 
-    // The spans after the lifting; none where a bound is beyond 32 bits.
+    // The spans after the lifting; none where a bound is beyond 32 bits. Stage and spans stay two values, as in `Stage::spans_after`.
     pub(crate) fn spans_after(&self, checked: &Checked, spans: &SpanList) -> Option<SpanList>
         requires { self.now.first + self.now.count ≤ length (rows_of spans.now) }
         ensures { LiftMakes result (lift_made checked.now.shape) (lift_after checked.now.shape) self.now (rows_of spans.now) }

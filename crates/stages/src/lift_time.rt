@@ -47,7 +47,7 @@ impl Lift {
         Some(join(span, &both))
     }
 
-    // The spans after the lifting along the samples.
+    // The spans after the lifting along the samples. Stage and spans stay two values, as in `Stage::spans_after`.
     pub(crate) fn along_samples(&self, checked: &Checked, spans: &SpanList) -> Option<SpanList>
         requires { self.now.first + self.now.count ≤ length (rows_of spans.now) }
         ensures { LiftMakes result (samples_made checked.now.shape) (samples_after checked.now.shape) self.now (rows_of spans.now) }

@@ -4,6 +4,7 @@ ghost use Rattle.stages.specs.Lifting.{parity_of, other};
 use crate::stage::Parity;
 
 impl Parity {
+    // A method, and no `From`: the tests on indices read it by its name.
     pub fn number(self) -> usize
         ensures value { result ≡ parity_of self }
         ensures small { result ≤ 1 }

@@ -7,7 +7,8 @@ use crate::reach::Reach;
 use sets::span::Span;
 use sets::span_list::SpanList;
 
-// The span of these bounds, unless they are beyond signed 32 bits.
+// The span of these bounds, unless they are beyond signed 32 bits. Two numbers, and no `TryFrom<Reach>`: they may be wider than what
+// a `Reach` holds.
 pub(crate) fn narrowed(least: i64, greatest: i64) -> Option<Span>
     requires { least ≤ℤ greatest }
     ensures { Narrowed result (between least greatest) }

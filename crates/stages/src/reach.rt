@@ -3,7 +3,8 @@ ghost use Rattle.std.specs.Prelude.{◌≡◌, ◌^◌, ◌≤◌, pos, neg_ℤ,
 use crate::floor::shifted;
 use sets::span::Span;
 
-// The least and the greatest of a quotient, or of any other number that may be wider than a sample.
+// The least and the greatest of a quotient, or of any other number that may be wider than a sample. Not one generic type with `Span`:
+// its limits are other ones.
 #[derive(Clone, Copy)]
 pub struct Reach {
     pub least: i64,

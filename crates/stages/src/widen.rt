@@ -43,7 +43,7 @@ impl Stage {
     }
 
     // The spans after the stage; none where a bound is beyond 32 bits.
-    // Stage and spans stay two values: a type of both would be taken apart in every closure.
+    // Stage, shape and spans stay apart: a type of them would be taken apart in every closure.
     #[tactic(auto, using(crate::proofs::Plains::rows_count), unfolding(crate::specs::Plain::plain))]
     fn spans_after(&self, checked: &Checked, spans: &SpanList) -> Option<SpanList>
         requires { end_of (plain self.now) ≤ length (rows_of spans.now) }
@@ -56,7 +56,8 @@ impl Stage {
         }
     }
 
-    // The spans after the stage, or why there are none.
+    // The spans after the stage, or why there are none. The first two tests stand in `rack` too, where they are stated by a definition
+    // of that crate: neither crate stands on the other.
     #[tactic(auto, using(crate::proofs::Refused::refusals), unfolding(crate::specs::Stages::spans_refused))]
     fn after(&self, shape: &Shape, spans: &SpanList) -> Result<SpanList, Refusal>
         ensures { let bs = rows_of spans.now in Ruled result (spans_refused shape.now (plain self.now) bs) (spans_after shape.now (plain self.now) bs) }

@@ -49,7 +49,8 @@ impl DepRows {
         row.turn::<TAKE>(area);
     }
 
-    // Applies the rows, the last first: in this order each reads old samples alone.
+    // Applies the rows, the last first: in this order each reads old samples alone. Undoing is another function: a flag for the order
+    // would put both loops into one.
     #[tactic(auto, using(crate::proofs::DepRuns::forth_none, crate::proofs::DepRuns::forth_more))]
     pub(crate) fn apply(&self, area: &mut [i32])
         requires { length area.old ≡ size_of self.now.shape }

@@ -11,7 +11,8 @@ use stages::stage::Axis;
 // So many positions from an end of a line on, all that a step with an offset of -8 to 8 reads is inside.
 const MARGIN: usize = 32;
 
-// Each function asks that the area has as many samples as the sets: a type of both would have to hold the lent area.
+// Each function asks that the area has as many samples as the sets: a type of both would have to hold the lent area. `Hits` is asked
+// of a number: a type of it would be made anew for each position.
 impl Turn {
     // The step at position j of every line.
     fn position<const UNDO: bool>(&self, j: usize, area: &mut [i32])

@@ -6,13 +6,12 @@ ghost use Rattle.rules.specs.Lifted.{lone_odd};
 ghost use Rattle.transform.specs.Lone.{Doubled, Halved, NoHalf};
 
 use crate::lifting::Lifting;
-use crate::low_bits::low_bits;
 
 // The double of a sample, in 32 bits that wrap.
 fn double(x: i32) -> i32
     ensures { result ≡ int_wrap w32 (x +ℤ x) }
 {
-    low_bits(i64::from(x) + i64::from(x))
+    x.wrapping_add(x)
 }
 
 // The number of which a sample is the double.
@@ -23,6 +22,7 @@ fn half(x: i32) -> Option<i32>
 }
 
 // The samples of such lines are evenly spaced, and are walked in place. Doubling and halving are two loops, since only halving can fail.
+// The area is passed apart, as in `LongLines`.
 impl Lifting {
     // Doubles the samples of lines of one odd index.
     pub(crate) fn double_lone(&self, area: &mut [i32])

@@ -60,7 +60,7 @@ fn recolour_all<const UNDO: bool>(area: &mut [i32], p: usize, q: usize, r: usize
     }
 }
 
-// Applies or undoes the colour transform.
+// Applies or undoes the colour transform. One function asks all this: a type like `DepRows` would be made for it alone.
 pub(crate) fn turn_rct<const UNDO: bool>(rct: &Rct, shape: &Shape, area: &mut [i32])
     requires limits { in_limits shape.now ≡ true }
     requires room { rct.now.first + 3 ≤ shape.now.channels }

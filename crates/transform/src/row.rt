@@ -8,6 +8,7 @@ use stages::quotient::Quotient;
 #[derive(Clone, Copy)]
 pub(crate) struct Row {
     pub(crate) quotient: Quotient,
+    // An array, since there is no heap and a row is copied: the addresses of the taps that count stand first.
     pub(crate) from: [usize; 8],
     pub(crate) to: usize,
     pub(crate) by: usize,

@@ -6,6 +6,7 @@ ghost use Rattle.transform.specs.Turns.{Sized, TurnedAt, on_line};
 use crate::row::Row;
 use crate::run::Run;
 
+// The area is passed apart, as in `Turn`.
 impl Run {
     // The step on one channel.
     fn on_line<const UNDO: bool>(&self, line: usize, area: &mut [i32])

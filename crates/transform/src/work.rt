@@ -8,7 +8,7 @@ ghost use Rattle.transform.specs.Work.{Applied, TakenBack};
 use sets::shape::Shape;
 
 // What a kind of stage does to areas of samples, in place.
-// Shape and area come apart, as a rack's calls pass them, and each function asks that they fit: a type of both would have to hold the
+// Shape and area are passed apart, as a rack's calls pass them, and each function asks that they fit: a type of both would have to hold the
 // lent area.
 pub(crate) trait Work {
     // The stage by its words and numbers.

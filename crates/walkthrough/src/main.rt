@@ -42,7 +42,7 @@ fn add_numbers(all: &mut Vec<i32>, fields: &str) -> anyhow::Result<()> {
     Ok(())
 }
 
-// Number k of the first line, counted from 0.
+// Number k of the first line, counted from 0: one by one, so that a wrong size in front is told before a field that is missing.
 fn number(head: &[i32], k: usize) -> anyhow::Result<i32> {
     head.get(k).copied().context(
         "the first line of a set is SET,channels,samples,origin,least,greatest",
