@@ -20,10 +20,10 @@ use std::io;
 use std::io::{BufWriter, Read, Write};
 use transform::bank::Bank;
 
-// The rack that is called.
+// Which rack is called. The recipe stands in `Lent`, where it is read in place.
 #[derive(Clone, Copy)]
 enum Called {
-    Recipe(Recipe),
+    Recipe,
     Classic,
 }
 
@@ -33,6 +33,8 @@ struct Lent {
     shape: Shape,
     spans: SpanList,
     area: Vec<i32>,
+    recipe: Recipe,
+    called: Called,
 }
 
 // Near to what `walkthrough` does, which refuses what is read as 0 here: programs share no crate.
@@ -155,13 +157,7 @@ fn recipe_text(heap: Global, line: &str) -> anyhow::Result<String> {
     Ok(text)
 }
 
-fn obey<W: Write>(
-    heap: Global,
-    out: &mut W,
-    line: &str,
-    called: &mut Called,
-    lent: &mut Lent,
-) -> anyhow::Result<()> {
+fn obey<W: Write>(heap: Global, out: &mut W, line: &str, lent: &mut Lent) -> anyhow::Result<()> {
     let head = line.split('\t').next().unwrap_or("");
     let word = head.split(',').next().unwrap_or("");
     let values = numbers(heap, head)?;
@@ -175,17 +171,16 @@ fn obey<W: Write>(
         "AREA" => lent.area = values,
         "RECIPE" => {
             let text = recipe_text(heap, line)?;
-            let mut recipe = Recipe::new();
-            recipe
+            lent.called = Called::Recipe;
+            lent.recipe
                 .read(text.as_bytes())
                 .map_err(|_| anyhow!("bad recipe in the script"))?;
-            *called = Called::Recipe(recipe);
         }
-        "CLASSIC" => *called = Called::Classic,
+        "CLASSIC" => lent.called = Called::Classic,
         _ => {
             let number = size_at(values.as_slice(), 0);
-            match *called {
-                Called::Recipe(recipe) => call(&Bank { table: recipe }, out, word, number, lent)?,
+            match lent.called {
+                Called::Recipe => call(&Bank { table: lent.recipe }, out, word, number, lent)?,
                 Called::Classic => call(&Bank { table: Classic }, out, word, number, lent)?,
             }
         }
@@ -202,10 +197,11 @@ fn run<W: Write>(heap: Global, out: &mut W, script: &str) -> anyhow::Result<()> 
         },
         spans: SpanList::new(),
         area: Vec::new(heap),
+        recipe: Recipe::new(),
+        called: Called::Recipe,
     };
-    let mut called = Called::Recipe(Recipe::new());
     for line in script.lines() {
-        obey(heap, out, line, &mut called, &mut lent)?;
+        obey(heap, out, line, &mut lent)?;
     }
     Ok(())
 }

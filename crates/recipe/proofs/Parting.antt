@@ -1,8 +1,10 @@
 -- A text cut at a separator and put together again.
-use Rattle.std.proofs.Common.{◌≡◌, ℕ, ◌≤◌, Bool, true, false, cond, eqb, List, [], ◌∷◌, ◌++◌, length, sym, refl, ap, ◌∙◌, append_assoc, arith}
-use Rattle.std.specs.List.{flat_map, onto_first, join_with_byte, AllByRecursion}
+use Rattle.std.proofs.Common.{◌≡◌, ℕ, ◌+◌, ◌%◌, ◌^◌, ◌<◌, ◌≤◌, Bool, true, false, cond, eqb, List, [], ◌∷◌, ◌++◌, length, sym, refl, ap, ◌∙◌, append_assoc, arith}
+use Rattle.std.specs.List.{flat_map, fold, count_by, onto_first, join_with_byte, AllByRecursion}
 use Rattle.std.proofs.ByRecursion.{All-append}
 use Rattle.std.proofs.lemmas.List.Splits.{length-slice_split, join_with_byte-slice_split}
+use Rattle.std.proofs.lemmas.List.Sums.{sum_by-cons}
+use Rattle.std.proofs.Math.Nat.{mod-eq_of_lt}
 use Rattle.std.proofs.lemmas.Bool.{cond-true, cond-false, eq-eqb}
 use Rattle.recipe.specs.Fields.{cut, heads, final, lines_of, tail_of, fields_of}
 use Rattle.recipe.specs.Written.{ended}
@@ -107,3 +109,15 @@ fields_line (f ∷ fs) some h = cut-parted 44 f fs h
 pub fields_some : (line : List ℕ) → 1 ≤ length (fields_of line)
 unfolding fields_of
 fields_some line = cut-some 44 line
+
+-- a count that wraps is the count where there are not too many
+pub counted : (p : ℕ → Bool) (n : ℕ) (bs : List ℕ) → n + length bs < 2 ^ 64 → fold (λ m b. (m + cond (p b) 1 0) % 2 ^ 64) n bs ≡ n + count_by p bs
+counted p n [] h = omega arith
+counted p n (b ∷ bs) h =
+    let one : cond (p b) 1 0 ≤ 1 = small (p b) in
+    ap (λ m. fold (λ m b. (m + cond (p b) 1 0) % 2 ^ 64) m bs) (mod-eq_of_lt (omega arith)) ∙ counted p (n + cond (p b) 1 0) bs (omega arith)
+    ∙ omega (arith, sum_by-cons (λ b. cond (p b) 1 0) b bs)
+  where
+    small : (x : Bool) → cond x 1 0 ≤ 1
+    small true = omega arith
+    small false = omega arith

@@ -11,9 +11,10 @@ use Rattle.recipe.specs.Promises.{NoLine, fields_in, headed}
 use Rattle.recipe.specs.declared.line.Line.{Line}
 use Rattle.recipe.specs.declared.lines.Lines.{Lines}
 use Rattle.recipe.specs.Readings.{NextLine, reading_from}
-use Rattle.recipe.specs.Replies.{answered}
+use Rattle.recipe.specs.Replies.{Answers, answered}
 use Rattle.recipe.specs.Requests.{PlainRequest, set_fault, asked, request_from, requested}
 use Rattle.recipe.specs.Rules.{set}
+use Rattle.stages.specs.Plain.{Plain}
 
 pub too_long : (t : List ℕ) → 65536 < length t → requested t ≡ Err (record { cause = TooLong; line = 0; field = 0 })
 unfolding requested
@@ -51,6 +52,15 @@ module _ (a : Lines) (one : a.number ≡ 1) (few : length a.rest.now ≤ 65536) 
   set_right e =
       split ∙ right_set _ _ _ (set-first _ e)
       ∙ ap (λ n. asked (fields_in l) (read_from begun n (lines_of b.rest.now) (tail_of b.rest.now))) (sym (h.next ∙ ap (λ n. n + 1) one))
+
+-- what a filled table says of the text
+pub answers_err : (o : Result (List Plain) Fault) (f : Fault) (held : List Plain) → Answers o (Err f) held → o ≡ Err f
+answers_err (Ok ts) f held h = let e = h.0 in cc
+answers_err (Err g) f held h = let e = h.0 in cc
+
+pub answers_ok : (o : Result (List Plain) Fault) (held : List Plain) → Answers o (Ok tt) held → o ≡ Ok held
+answers_ok (Ok ts) held h = ap Ok (sym h.1)
+answers_ok (Err g) held h = let e = h.0 in cc
 
 -- a fault that is passed on
 pub answered-err : (r : Result Request Fault) (o : Result PlainRequest Fault) (f : Fault) → IsErr r × IsErrAnd r (λ x. x ≡ f) → o ≡ Err f → answered r ≡ o

@@ -14,8 +14,7 @@ use Rattle.recipe.specs.declared.line.Line.{Line}
 use Rattle.recipe.specs.declared.lines.Lines.{Lines}
 use Rattle.recipe.specs.Readings.{LinesEnd, NextLine, reading_from}
 use Rattle.std.specs.Result.{IsErr, IsErrAnd}
-use Rattle.recipe.specs.declared.table.Recipe.{Recipe}
-use Rattle.recipe.specs.Replies.{by_words}
+use Rattle.recipe.specs.Replies.{Reads}
 use Rattle.recipe.proofs.Faults.{some_from_cond, none_from_cond}
 use Rattle.recipe.proofs.Parting.{cut-some, heads-cons, final-cons}
 
@@ -88,6 +87,6 @@ module _ (s : Sofar) (a b : Lines) (h : LinesEnd a b) where
       short (b ∷ bs) ne = refl
 
 -- a fault that is passed on
-pub by_words_err : (o : Result (List Plain) Fault) (r : Result Recipe Fault) (f : Fault) → IsErr r × IsErrAnd r (λ x. x ≡ f) → o ≡ Err f → by_words r ≡ o
-by_words_err o (Ok x) f p e = absurd p.1
-by_words_err o (Err x) f p e = ap Err p.1 ∙ sym e
+pub reads_err : (o : Result (List Plain) Fault) (held : List Plain) (r : Result Unit Fault) (f : Fault) → IsErr r × IsErrAnd r (λ x. x ≡ f) → o ≡ Err f → Reads o held r
+reads_err o held (Ok x) f p e = absurd p.1
+reads_err o held (Err x) f p e = e ∙ sym (ap Err p.1)

@@ -3,8 +3,6 @@ use Rattle.std.specs.Prelude.{◌≡◌, List, [], Ok, Err, Result}
 use Rattle.recipe.specs.declared.fault.Fault.{Fault}
 use Rattle.recipe.specs.declared.request.Request.{Request}
 use Rattle.stages.specs.Plain.{Plain}
-use Rattle.recipe.specs.declared.table.Recipe.{Recipe}
-use Rattle.recipe.specs.Tables.{table_of}
 use Rattle.recipe.specs.Requests.{PlainRequest, plain_request}
 
 -- the answer to a text, with what the table holds then: its stages, or nothing beside the fault
@@ -12,10 +10,10 @@ abbrev pub Answers : Result (List Plain) Fault → Result Unit Fault → List Pl
 Answers (Ok ts) r held = (r ≡ Ok tt) × (held ≡ ts)
 Answers (Err f) r held = (r ≡ Err f) × (held ≡ [])
 
--- a recipe that is read, by its words and numbers
-abbrev pub by_words : Result Recipe Fault → Result (List Plain) Fault
-by_words (Ok r) = Ok (table_of r)
-by_words (Err f) = Err f
+-- the answer r is that of the text, whose stages the table holds if it has no fault
+abbrev pub Reads : Result (List Plain) Fault → List Plain → Result Unit Fault → Type 0
+Reads o held (Ok u) = o ≡ Ok held
+Reads o held (Err f) = o ≡ Err f
 
 -- an answer by its numbers
 abbrev pub answered : Result Request Fault → Result PlainRequest Fault

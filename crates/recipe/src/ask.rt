@@ -8,7 +8,6 @@ ghost use Rattle.recipe.specs.Rules.{set};
 use crate::fault::{Cause, Fault};
 use crate::line::Line;
 use crate::lines::Lines;
-use crate::read::recipe_from;
 use crate::request::Request;
 use crate::table::Recipe;
 use sets::shape::Shape;
@@ -61,9 +60,9 @@ fn set_and_recipe(text: &[u8]) -> Result<Request, Fault>
     let Some(line) = lines.next_line() else {
         return Err(lines.ends_inside());
     };
-    let set = set_due(&line)?;
-    let recipe = recipe_from(lines)?;
-    Ok(Request { recipe, ..set })
+    let mut request = set_due(&line)?;
+    request.recipe.fill(lines)?;
+    Ok(request)
 }
 
 // Reads the text of a report: a SET line, and a recipe.

@@ -1,45 +1,50 @@
-ghost use Rattle.std.specs.Prelude.{◌≡◌};
 ghost use Rattle.recipe.specs.Grammar.{begun, reading};
 ghost use Rattle.recipe.specs.Readings.{reading_from};
-ghost use Rattle.recipe.specs.Replies.{Answers, by_words};
+ghost use Rattle.recipe.specs.Replies.{Answers, Reads};
 ghost use Rattle.recipe.specs.Tables.{table_of};
 ghost use Rattle.recipe.specs.Written.{ReadingLaws};
 
 use crate::fault::Fault;
 use crate::lines::Lines;
-use crate::reading::Reading;
 use crate::table::Recipe;
 
-// The recipe that lines write.
-pub(crate) fn recipe_from(mut lines: Lines<'_>) -> Result<Recipe, Fault>
-    ensures { by_words result ≡ reading_from begun lines.entry }
-{
-    let mut reading = Reading {
-        recipe: Recipe::new(),
-        left: 0,
-    };
-    // No `Iterator`: a `for` would take the lines, which are looked at after the loop.
-    while let Some(line) = lines.next_line() {
-        reading.take(&line)?;
-    }
-    if lines.rest.is_empty() && reading.left == 0 {
-        return Ok(reading.recipe);
-    }
-    Err(lines.ends_inside())
-}
-
 impl Recipe {
+    // Takes the lines of a text into the table, in place of what it holds.
+    fn take_lines(&mut self, mut lines: Lines<'_>) -> Result<(), Fault>
+        ensures { Reads (reading_from begun lines.entry) (table_of self.new) result }
+    {
+        self.len = 0; // what an earlier text left is let go
+        let mut left = 0;
+        // No `Iterator`: a `for` would take the lines, which are looked at after the loop.
+        while let Some(line) = lines.next_line() {
+            left = self.take(&line, left)?;
+        }
+        if lines.rest.is_empty() && left == 0 {
+            return Ok(());
+        }
+        Err(lines.ends_inside())
+    }
+
+    // The recipe of the lines of a text; a refused text leaves the table empty.
+    pub(crate) fn fill(&mut self, lines: Lines<'_>) -> Result<(), Fault>
+        ensures { Answers (reading_from begun lines.entry) result (table_of self.new) }
+    {
+        let answer = self.take_lines(lines);
+        if answer.is_err() {
+            self.len = 0; // what came before the fault is let go
+        }
+        answer
+    }
+
     // Reads a recipe. A refused text leaves the table empty.
     #[tactic(auto, using(crate::proofs::Theorem::reading_laws))]
     pub fn read(&mut self, text: &[u8]) -> Result<(), Fault>
         ensures answer { Answers (reading text.now) result (table_of self.new) }
         ensures law { ReadingLaws }
     {
-        self.len = 0; // what an earlier text left is let go
-        *self = recipe_from(Lines {
+        self.fill(Lines {
             rest: text,
             number: 1,
-        })?;
-        Ok(())
+        })
     }
 }

@@ -11,7 +11,11 @@ impl<'a> Line<'a> {
     pub fn commas(&self) -> usize
         ensures { result + 1 ≡ length (fields_of self.now.bytes.now) }
     {
-        self.bytes.iter().filter(|b| **b == b',').count()
+        // A fold, and no `filter` and `count`: these branch at each byte, which is slow where commas come at random.
+        // A slice is shorter than the sum could wrap.
+        self.bytes
+            .iter()
+            .fold(0, |n: usize, b| n.wrapping_add(usize::from(*b == b',')))
     }
 
     // Field `k`, from 0, and an empty field past the last.
