@@ -10,13 +10,14 @@ use Rattle.recipe.specs.declared.fault.Fault.{Fault}
 use Rattle.recipe.specs.Causes.{number_of as cause_number}
 use Rattle.recipe.specs.Requests.{PlainRequest, requested}
 use Rattle.reporting.specs.declared.line.Line.{Line}
-use Rattle.reporting.specs.declared.line.Line.TheVariants.{Span, Fault as FaultLine, Refused}
+use Rattle.reporting.specs.declared.line.Line.TheVariants.{Span, Fault as FaultLine, Refused, Numbered}
 
 -- numbers in decimal, parted by commas
 abbrev pub text_of : Line → List ℕ
 text_of (Span stage channel least greatest) = decimal stage ++ (codes "," ++ (decimal channel ++ (codes "," ++ (signed_decimal least ++ (codes "," ++ signed_decimal greatest)))))
 text_of (FaultLine fault) = codes "refused," ++ (decimal (cause_number fault.cause) ++ (codes "," ++ (decimal fault.line ++ (codes "," ++ decimal fault.field))))
 text_of (Refused stage refusal) = codes "refused," ++ (decimal (number_of refusal) ++ (codes "," ++ (decimal stage ++ codes ",0")))
+text_of (Numbered number place field) = codes "refused," ++ (decimal number ++ (codes "," ++ (decimal place ++ (codes "," ++ decimal field))))
 
 -- the spans of all channels after stage k, from channel c on
 unfoldable pub channel_lines : ℕ → ℕ → List Bounds → List Line

@@ -20,6 +20,12 @@ pub enum Line {
         stage: usize,
         refusal: Refusal,
     },
+    // A last line by its numbers alone, for callers who have it no other way; `report` answers the two above.
+    Numbered {
+        number: u8,
+        place: usize,
+        field: usize,
+    },
 }
 
 impl fmt::Display for Line {
@@ -37,6 +43,11 @@ impl fmt::Display for Line {
                 write!(f, "refused,{cause},{line},{field}")
             }
             Line::Refused { stage, refusal } => write!(f, "refused,{refusal},{stage},0"),
+            Line::Numbered {
+                number,
+                place,
+                field,
+            } => write!(f, "refused,{number},{place},{field}"),
         }
     }
 }
