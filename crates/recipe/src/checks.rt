@@ -62,7 +62,11 @@ impl Line<'_> {
         let Field::Number(digits) = self.field(usize::from(k)) else {
             return Err(self.fault(Cause::NotListed, k));
         };
-        value_within(digits, least, greatest).ok_or(self.fault(Cause::OutsideLimit, k))
+        // A match, and no `ok_or`: this stands in each number's way, and making the fault of every number takes longer than reading it.
+        match value_within(digits, least, greatest) {
+            Some(value) => Ok(value),
+            None => Err(self.fault(Cause::OutsideLimit, k)),
+        }
     }
 
     // The number in field `k`, if it is one from `least` to `greatest`.

@@ -1,6 +1,5 @@
-use Rattle.std.proofs.Common.{[], Some, sym, ap, ◌∙◌, w32, SFits}
+use Rattle.std.proofs.Common.{[], Some, None, Ok, Err, refl, sym, ap, ◌∙◌, w32, SFits, rules}
 use Rattle.std.proofs.lemmas.Int.{to_z-of_z}
-use Rattle.std.specs.Option.{ok_or}
 use Rattle.recipe.specs.Fields.{fields_of}
 use Rattle.recipe.specs.Rules.{between}
 use Rattle.recipe.proofs.Faults.{first_wrong-here, shown_no_number, wrong-no-number, judged_within}
@@ -13,10 +12,20 @@ returns-in_default c =
     (wrong-no-number _ _ _ (shown_no_number c.field.result _ (rw c.from.ensures at c.field.ensures) c.in_default.not-Number))
     ∙ ap Some (sym c.fault.ensures)
 
-pub returns : goal.returns
-returns c =
+pub returns-in-Some : goal.returns-in-Some
+returns-in-Some c =
     let line = c.args.self.now in
     let low : SFits w32 c.args.least = c.ranges.least in
     let high : SFits w32 c.args.greatest = c.ranges.greatest in
-    let r = simp to_z-of_z at c.value_within.ensures in
-    judged_within line.number (fields_of line.bytes.now) c.args.k c.args.least c.args.greatest c.in-Number.digits.now c.value_within.result c.ok_or.result (rw c.from.ensures at c.in-Number.ensures) r (c.ok_or.ensures.value ∙ ap (ok_or c.value_within.result) c.fault-2.ensures)
+    let it : SFits w32 c.in-Some.value = search rules in
+    let e = simp to_z-of_z at c.in-Some.ensures in
+    let p = judged_within line.number (fields_of line.bytes.now) c.args.k c.args.least c.args.greatest c.in-Number.digits.now (Some c.in-Some.value) (Ok c.in-Some.value) (rw c.from.ensures at c.in-Number.ensures) e refl in
+    simp to_z-of_z p
+
+pub returns-in-None : goal.returns-in-None
+returns-in-None c =
+    let line = c.args.self.now in
+    let low : SFits w32 c.args.least = c.ranges.least in
+    let high : SFits w32 c.args.greatest = c.ranges.greatest in
+    let e = simp to_z-of_z at c.in-None.ensures in
+    judged_within line.number (fields_of line.bytes.now) c.args.k c.args.least c.args.greatest c.in-Number.digits.now None (Err _) (rw c.from.ensures at c.in-Number.ensures) e (ap Err c.fault-in-None.ensures)
