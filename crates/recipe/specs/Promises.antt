@@ -31,6 +31,9 @@ abbrev pub capped : ℤ → ℤ
 capped (pos n) = pos (min n 4294967295)
 capped (negsuc n) = negsuc (min n 4294967294)
 
+abbrev pub fields_in : Line → List (List ℕ)
+fields_in l = fields_of l.bytes.now
+
 -- an answer to what may be at fault: the fault, or a value of which P holds
 abbrev pub Judged : {X : Type 0} → Option Fault → (X → Type 0) → Result X Fault → Type 0
 Judged o P (Ok x) = (o ≡ None) × P x
@@ -39,6 +42,10 @@ Judged o P (Err f) = o ≡ Some f
 -- an answer that is a fault or nothing
 abbrev pub Passes : Option Fault → Result Unit Fault → Type 0
 Passes o r = Judged o (λ _. Unit {0}) r
+
+-- an answer that is a fault, or how many fields the line has behind its word
+abbrev pub Counts : Option Fault → Line → Result ℕ Fault → Type 0
+Counts o l r = Judged o (λ n. n + 1 ≡ length (fields_in l)) r
 
 -- the number z, if it lies between the limits
 abbrev pub within : ℤ → ℤ → ℤ → Option ℤ
@@ -55,9 +62,6 @@ pub record Counted (least greatest : ℕ) (z : ℤ) (n : ℕ) : Type 0 where
   pub is : z ≡ pos n
   pub above : least ≤ n
   pub below : n ≤ greatest
-
-abbrev pub fields_in : Line → List (List ℕ)
-fields_in l = fields_of l.bytes.now
 
 -- what the field f stands for, which is the first of two words or else the second
 abbrev pub stands_for : {T : Type 0} → List ℕ → Bor (List ℕ) × T → Bor (List ℕ) × T → T

@@ -15,7 +15,8 @@ impl Recipe {
         if self.len == 16 {
             return Err(line.fault(Cause::StageCount, 0));
         }
-        line.check_count(behind, behind)
+        line.check_count(behind, behind)?;
+        Ok(())
     }
 
     // The stage that a line begins.

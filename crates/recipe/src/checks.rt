@@ -1,6 +1,6 @@
 ghost use Rattle.std.specs.Prelude.{◌≡◌, ◌+◌, ◌^◌, ◌<◌, true, [], ◌∷◌, pos};
 ghost use Rattle.recipe.specs.Fields.{is_word};
-ghost use Rattle.recipe.specs.Promises.{Counted, Held, Judged, Passes, fields_in, stands_for, wrong_count, wrong_from, wrong_head};
+ghost use Rattle.recipe.specs.Promises.{Counted, Counts, Held, Judged, fields_in, stands_for, wrong_count, wrong_from, wrong_head};
 ghost use Rattle.recipe.specs.Rules.{between, listed, same, field as at, number as number_at};
 
 use crate::fault::{Cause, Fault};
@@ -31,21 +31,27 @@ impl Line<'_> {
         first == word
     }
 
-    // Refuses a line that has not from `least` to `greatest` fields behind its word.
-    pub(crate) fn check_count(&self, least: usize, greatest: usize) -> Result<(), Fault>
-        ensures { Passes (wrong_count least greatest self.now) result }
+    // Refuses a line that has not from `least` to `greatest` fields behind its word; the answer is how many it has.
+    pub(crate) fn check_count(&self, least: usize, greatest: usize) -> Result<usize, Fault>
+        ensures { Counts (wrong_count least greatest self.now) self.now result }
     {
         let behind = self.commas();
         if !(least..=greatest).contains(&behind) {
             return Err(self.fault(Cause::FieldCount, 0));
         }
-        Ok(())
+        Ok(behind)
     }
 
     // Refuses a line that does not begin with `word`, and then one whose number of fields is wrong.
-    pub(crate) fn check_head(&self, word: &[u8], least: usize, greatest: usize) -> Result<(), Fault>
+    // The answer is how many it has behind its word.
+    pub(crate) fn check_head(
+        &self,
+        word: &[u8],
+        least: usize,
+        greatest: usize,
+    ) -> Result<usize, Fault>
         requires { is_word word.now ≡ true }
-        ensures { Passes (wrong_head word.now least greatest self.now) result }
+        ensures { Counts (wrong_head word.now least greatest self.now) self.now result }
     {
         if !self.begins(word) {
             return Err(self.fault(Cause::WordDue, 0));

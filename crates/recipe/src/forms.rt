@@ -130,8 +130,8 @@ fn step_line(line: &Line, n: usize) -> Result<Step, Fault>
 pub(crate) fn step_due(line: &Line) -> Result<Step, Fault>
     ensures { Judged (headed (codes "STEP") step line.now.number (fields_in line.now)) (λ s. plain_step s ≡ step_from (fields_in line.now)) result }
 {
-    line.check_head(b"STEP", 4, 11)?;
-    step_line(line, line.commas() - 3)
+    let behind = line.check_head(b"STEP", 4, 11)?;
+    step_line(line, behind - 3)
 }
 
 // Half of 2 to the exponent, rounded down.

@@ -1,4 +1,4 @@
-use Rattle.std.proofs.Common.{refl, sym, ap, ◌∙◌, arith}
+use Rattle.std.proofs.Common.{refl, sym, ◌∙◌, arith}
 use Rattle.stages.specs.Plain.{plain}
 use Rattle.recipe.specs.Tables.{table_of}
 use Rattle.recipe.proofs.Growing.{joined}
