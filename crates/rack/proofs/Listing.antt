@@ -1,10 +1,20 @@
 -- The list of a stage's channels, one channel after another.
-use Rattle.std.proofs.Common.{◌≡◌, ℕ, ◌+◌, ◌<◌, true, false, List, length, set, inl, inr, arith}
+use Rattle.std.proofs.Common.{◌≡◌, ℕ, ◌+◌, ◌<◌, true, false, List, length, set, refl, inl, inr, arith}
 use Rattle.std.proofs.lemmas.Bool.{cases_eq}
 use Rattle.std.proofs.lemmas.Grind.{common_steps}
 use Rattle.sets.specs.declared.shape.Shape.{Shape}
 use Rattle.rack.specs.Calls.{Listed}
 use Rattle.rack.specs.Meanings.{Meaning}
+
+pub listed_none : (m : Meaning) (f : Shape) (k : ℕ) (before : List ℕ) → Listed m f k 0 before before 0
+listed_none m f k before =
+    record {
+      few = omega arith;
+      listed = λ i h. absurd (omega arith);
+      once = λ i j h l. absurd (omega arith);
+      all = λ c h. absurd (omega arith);
+      rest = λ i h. refl;
+    }
 
 -- a channel that is not listed
 pub listed_skip : (m : Meaning) (f : Shape) (k c : ℕ) (before after : List ℕ) (n : ℕ) → Listed m f k c before after n → false ≡ m.listed f k c → Listed m f k (c + 1) before after n
