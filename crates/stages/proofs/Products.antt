@@ -1,7 +1,8 @@
 -- Products of a tap and a sample, and sums of few of them.
 use Rattle.std.proofs.Common.{◌≡◌, suc, ◌^◌, ℤ, pos, negsuc, ◌*ℤ◌, neg_ℤ, ◌≤ℤ◌, ◌∙◌, arith, w16, w32, w64, SFits, to_z, of_z}
 use Rattle.std.proofs.lemmas.Nat.{mul-le}
-use Rattle.std.proofs.lemmas.Int.{ints, to_z-of_z}
+use Rattle.std.proofs.lemmas.Int.{ints, clamps, to_z-of_z}
+use Rattle.std.specs.Int.{int_max, int_min}
 
 abbrev pub Small : ℤ → Type 0
 Small z = (z ≤ℤ pos (2 ^ 46)) × (neg_ℤ (pos (2 ^ 46)) ≤ℤ z)
@@ -20,3 +21,12 @@ product_back a b f g =
     let s = product_small a b f g in
     let h : SFits w64 (a *ℤ b) = omega (arith, ints) in
     (λ i. to_z w64 (of_z w64 (wa i *ℤ wb i))) ∙ to_z-of_z w64 (a *ℤ b) h
+
+pub min_small : (p q : ℤ) → Small p → Small q → Small (int_min p q)
+min_small p q f g = omega (arith, ints, clamps)
+
+pub max_small : (p q : ℤ) → Small p → Small q → Small (int_max p q)
+max_small p q f g = omega (arith, ints, clamps)
+
+pub min_max : (p q : ℤ) → int_min p q ≤ℤ int_max p q
+min_max p q = omega (arith, ints, clamps)

@@ -5,7 +5,7 @@ use Rattle.stages.specs.Channels.{row_after, taken, dep_at}
 use Rattle.stages.specs.Made.{MadeList, every}
 use Rattle.stages.specs.Plain.{plain_rows}
 use Rattle.stages.specs.Ranges.{fits, all_fit}
-use Rattle.stages.proofs.Every.{all_fit_map, every-window, every-shift}
+use Rattle.stages.proofs.Every.{all_fit_map, every-within, every-shift}
 use Rattle.stages.proofs.Gathers.{gathered_list}
 use Rattle.stages.proofs.Plains.{rows_count}
 use Rattle.stages.proofs.stage.Dep.spans_after.Goals as goal
@@ -21,7 +21,7 @@ returns c =
     let end : d.first + d.count ≡ d.first + 1 + length rows = omega arith in
     let made = gathered_list _ _ _ c.gathered.ensures (λ c. cond (ltb d.first c && ltb c (d.first + d.count)) (row (c - d.first)) true) (dep_at d.first d.count rows bs) (λ i h o r. search rules) _ _ c.len.ensures
     ((λ i. every (λ c. cond (leb (after i) c && ltb c (end i)) (row (c - d.first)) true) (range_with_len 0 (length bs)))
-    ∙ every-window (λ c. row (c - d.first)) (length bs) (d.first + 1) (length rows) (omega arith)
+    ∙ every-within (λ c. row (c - d.first)) (length bs) (d.first + 1) (length rows) (omega arith)
     ∙ every-shift row d.first 1 (length rows)
     ∙ sym (all_fit_map (row_after rows (taken d.first d.count bs)) (range_with_len 1 (length rows)))) in
     subst (λ n. MadeList c.gathered.result (all_fit (map (row_after rows (taken d.first n bs)) (range_with_len 1 (length rows)))) (map (dep_at d.first n rows bs) (range_with_len 0 (length bs)))) count made
