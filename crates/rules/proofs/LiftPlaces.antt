@@ -25,6 +25,7 @@ pub record Source (f : Shape) (l : PlainLift) (c t i a : ℕ) : Type 0 where
   pub index : line_index f l (a / f.samples) (a % f.samples) ≡ i
   pub same_line : (j : ℕ) → address_of f l (a / f.samples) (a % f.samples) j ≡ address_of f l c t j
   pub along-time : l.axis ≡ Time → a / f.samples ≡ c
+  pub along-channels : l.axis ≡ Channel → (a / f.samples ≡ l.first + i * 2 ^ l.level) × (a % f.samples ≡ t)
 
 -- the same lifting along an axis
 abbrev pub along : Axis → PlainLift → PlainLift
@@ -45,8 +46,9 @@ channel_is_not_time e = cc
 
 -- the facts about an address from those about its channel c' and its sample t'
 source_made : (f : Shape) (l : PlainLift) (c t i c' t' : ℕ) → c' < f.channels → t' < f.samples → lists_channel l c' ≡ true → place_of f l c' t' ≡ i * 2 ^ l.level →
-    ((j : ℕ) → address_of f l c' t' j ≡ address_of f l c t j) → (l.axis ≡ Time → c' ≡ c) → Source f l c t i (c' * f.samples + t')
-source_made f l c t i c' t' h k on place same time =
+    ((j : ℕ) → address_of f l c' t' j ≡ address_of f l c t j) → (l.axis ≡ Time → c' ≡ c) → (l.axis ≡ Channel → (c' ≡ l.first + i * 2 ^ l.level) × (t' ≡ t)) →
+    Source f l c t i (c' * f.samples + t')
+source_made f l c t i c' t' h k on place same time channel =
     let w = f.samples in
     let d = 2 ^ l.level in
     record {
@@ -58,6 +60,7 @@ source_made f l c t i c' t' h k on place same time =
       index = at_address (λ a b. line_index f l a b ≡ i) w c' t' k (ap (λ y. y / d) place ∙ mul-div_cancel i (pow_pos l.level));
       same_line = λ j. at_address (λ a b. address_of f l a b j ≡ address_of f l c t j) w c' t' k (same j);
       along-time = λ e. at_address (λ a b. a ≡ c) w c' t' k (time e);
+      along-channels = λ e. at_address (λ a b. (a ≡ l.first + i * d) × (b ≡ t)) w c' t' k (channel e);
     }
 
 source_along : (x : Axis) (f : Shape) (l : PlainLift) (c t i : ℕ) → l.first + l.count ≤ f.channels → t < f.samples → lists_channel l c ≡ true →
@@ -65,13 +68,13 @@ source_along : (x : Axis) (f : Shape) (l : PlainLift) (c t i : ℕ) → l.first 
 source_along Time f l c t i fits h on lo hi =
     let from = place_from l.level f.origin i lo in
     let until = place_until l.level f.origin f.samples i (omega arith) lo hi in
-    source_made f (along Time l) c t i c (i * 2 ^ l.level - f.origin) (omega (arith, listed_below l c on)) (omega arith) on (omega arith) (λ j. refl) (λ e. refl)
+    source_made f (along Time l) c t i c (i * 2 ^ l.level - f.origin) (omega (arith, listed_below l c on)) (omega arith) on (omega arith) (λ j. refl) (λ e. refl) (λ e. absurd (channel_is_not_time (sym e)))
 source_along Channel f l c t i fits h on lo hi =
     let one : 1 ≤ l.count = omega (arith, listed_below l c on, listed_from l c on) in
     let until = place_until l.level 0 l.count i one lo hi in
     let r = l.first + i * 2 ^ l.level in
     let on' : lists_channel l r ≡ true = and_from _ _ (le-leb l.first r (omega arith)) (lt-ltb r (l.first + l.count) (omega arith)) in
-    source_made f (along Channel l) c t i r t (omega arith) h on' (omega arith) (λ j. refl) (λ e. absurd (channel_is_not_time e))
+    source_made f (along Channel l) c t i r t (omega arith) h on' (omega arith) (λ j. refl) (λ e. absurd (channel_is_not_time e)) (λ e. (refl, refl))
 
 pub source_at : (f : Shape) (l : PlainLift) (c t i : ℕ) → l.first + l.count ≤ f.channels → t < f.samples → lists_channel l c ≡ true →
     first_of f l ≤ i → i < first_of f l + count_of f l → Source f l c t i (address_of f l c t i)
