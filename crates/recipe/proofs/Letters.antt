@@ -1,12 +1,22 @@
 -- Words and numbers by their bytes.
-use Rattle.std.proofs.Common.{◌≡◌, ℕ, ◌<◌, ◌≤◌, true, false, not, ◌&&◌, eqb, leb, List, [], ◌∷◌, length, get_or, drop, Decides, sym, refl, ap, ◌∙◌, arith, rules}
-use Rattle.std.proofs.lemmas.List.{nil_from_length}
-use Rattle.std.proofs.lemmas.Bool.{and_right, and_parts, not_from_true, leb-true, eq-eqb, ne_eqb, cond-true, cond-false, both_ways}
+use Rattle.std.proofs.Common.{◌≡◌, ℕ, ◌+◌, ◌<◌, ◌≤◌, Bool, true, false, not, ◌&&◌, eqb, leb, List, [], ◌∷◌, length, get_or, drop, Decides, sym, refl, ap, ◌∙◌, arith, rules}
+use Rattle.std.proofs.lemmas.List.{nil_from_length, at_drop_more}
+use Rattle.std.proofs.lemmas.Bool.{and_left, and_right, and_parts, not_from_true, lt-leb, leb-true, eq-eqb, ne_eqb, cond-true, cond-false, both_ways}
 use Rattle.std.proofs.Math.Bool.{and-true}
 use Rattle.std.specs.List.{list_all}
 use Rattle.std.proofs.lemmas.Slice.Eq.{compares_Decides}
 use Rattle.recipe.specs.Fields.{is_letter, is_digit, is_word, is_natural, is_number, is_zero}
 use Rattle.recipe.specs.Rules.{same}
+
+-- one byte more that passes
+pub every_more : (p : ℕ → Bool) (bs : List ℕ) (i : ℕ) → i < length bs → p (get_or bs i 0) ≡ true → list_all p (drop i bs) ≡ list_all p bs → list_all p (drop (i + 1) bs) ≡ list_all p bs
+every_more p bs i h passes before = sym (at_drop_more (list_all p) bs i 0 h ∙ ap (λ t. t && list_all p (drop (i + 1) bs)) passes) ∙ before
+
+pub outside_below : (low high b : ℕ) → b < low → (leb low b && leb b high) ≡ false
+outside_below low high b h = and_left _ _ (lt-leb low b h)
+
+pub outside_above : (low high b : ℕ) → high < b → (leb low b && leb b high) ≡ false
+outside_above low high b h = and_right (leb low b) _ (lt-leb b high h)
 
 pub no_word : (bs : List ℕ) → length bs ≡ 0 → is_word bs ≡ false
 unfolding is_word
@@ -22,6 +32,10 @@ pub natural-digits : (bs : List ℕ) → 0 < length bs → (2 ≤ length bs → 
 natural-digits [] h ne = absurd (omega arith)
 natural-digits (b ∷ []) h ne = and-true (list_all is_digit (b ∷ []))
 natural-digits (b ∷ d ∷ bs) h ne = ap (λ t. list_all is_digit (b ∷ d ∷ bs) && not t) (ne_eqb b 48 (ne (omega arith))) ∙ and-true _
+
+pub no_number : (bs : List ℕ) → length bs ≡ 0 → is_number bs ≡ false
+unfolding is_number
+no_number bs e = rw (nil_from_length bs e)
 
 pub number-plain : (bs : List ℕ) → (get_or bs 0 0 ≡ 45 → ⊥) → is_number bs ≡ is_natural bs
 unfolding is_number

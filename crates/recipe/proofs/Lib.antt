@@ -6,10 +6,13 @@ pub mod TapRules
 pub mod Alike
 pub mod Tables
 pub mod Growing
+pub mod Handed
 pub mod Openings
 pub mod Texts
 pub mod Reports
 pub mod Parting
+pub mod Cuts
+pub mod TextLines
 pub mod Figures
 pub mod Rulings
 pub mod LineForms

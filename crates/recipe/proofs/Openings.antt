@@ -11,6 +11,10 @@ use Rattle.stages.specs.Plain.{Plain, rct as an-rct}
 use Rattle.recipe.specs.Promises.{Judged, Begins, Opens, wrong_as, wrong_start, headed, fields_in}
 use Rattle.recipe.specs.Rules.{Form, lift, dep, rct, same, field, has_fields, first_wrong, rules_of}
 
+-- one comma fewer than fields
+pub commas-fields : (r n m : ℕ) → r + 1 ≡ n → eqb r m ≡ eqb n (m + 1)
+commas-fields r n m e = grind arith
+
 -- the word by which a line begins
 abbrev pub word : Line → List ℕ
 word l = field (fields_in l) 0

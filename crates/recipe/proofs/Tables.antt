@@ -42,10 +42,32 @@ with_step-lift x [] l ss = refl
 with_step-lift x (t ∷ []) l ss = refl
 with_step-lift x (t ∷ u ∷ ts) l ss = ap (λ r. t ∷ r) (with_step-lift x (u ∷ ts) l ss)
 
+with_step-last : (x : PlainStep) (ts : List Plain) (s : Plain) → with_step x (ts ++ s ∷ []) ≡ ts ++ with_step x (s ∷ [])
+with_step-last x [] s = refl
+with_step-last x (t ∷ []) s = refl
+with_step-last x (t ∷ u ∷ ts) s = ap (λ r. t ∷ r) (with_step-last x (u ∷ ts) s)
+
+pub with_step-other : (x : PlainStep) (ts : List Plain) (s : Stage) → ((l : Lift) → s ≡ in_lift l → ⊥) → with_step x (ts ++ plain s ∷ []) ≡ ts ++ plain s ∷ []
+unfolding plain
+with_step-other x ts (in_lift l) other = absurd (other l refl)
+with_step-other x ts (in_dep d) other = with_step-last x ts _
+with_step-other x ts (in-rct r) other = with_step-last x ts _
+
 pub with_row_dep : (x : PlainRow) (ts : List Plain) (f : ℕ) (rs : List PlainRow) → with_row x (ts ++ dep f rs ∷ []) ≡ ts ++ dep f (rs ++ x ∷ []) ∷ []
 with_row_dep x [] f rs = refl
 with_row_dep x (t ∷ []) f rs = refl
 with_row_dep x (t ∷ u ∷ ts) f rs = ap (λ r. t ∷ r) (with_row_dep x (u ∷ ts) f rs)
+
+with_row_last : (x : PlainRow) (ts : List Plain) (s : Plain) → with_row x (ts ++ s ∷ []) ≡ ts ++ with_row x (s ∷ [])
+with_row_last x [] s = refl
+with_row_last x (t ∷ []) s = refl
+with_row_last x (t ∷ u ∷ ts) s = ap (λ r. t ∷ r) (with_row_last x (u ∷ ts) s)
+
+pub with_row_other : (x : PlainRow) (ts : List Plain) (s : Stage) → ((d : Dep) → s ≡ in_dep d → ⊥) → with_row x (ts ++ plain s ∷ []) ≡ ts ++ plain s ∷ []
+unfolding plain
+with_row_other x ts (in_lift l) other = with_row_last x ts _
+with_row_other x ts (in_dep d) other = absurd (other d refl)
+with_row_other x ts (in-rct r) other = with_row_last x ts _
 
 -- the room for steps and rows
 pub room_lift : (l : Lift) → room_in (Some (plain (in_lift l))) ≡ 4 - l.step_count
@@ -79,6 +101,9 @@ module _ (r : Recipe) (due : 0 < room_in (at_hand (table_of r))) (s d : Stage) (
       let short = r.short in
       last_of r.stages r.len d some (omega arith) ∙ ap (λ s. front r.stages r.len ++ plain s ∷ []) is
 
+  pub at-hand : at_hand (table_of r) ≡ Some (plain s)
+  at-hand = ap at_hand ends ∙ at_hand-last (front r.stages r.len) (plain s)
+
 -- the form of a line of a lifting, and of dependency rows
 pub step-form : (l : Lift) (v : List ℕ) → form_inside (Some (plain (in_lift l))) v ≡ cond (same v (codes "STEP")) (Some step) None
 unfolding plain
@@ -96,3 +121,18 @@ row_form d v =
 pub rct_plain : (r : Rct) → plain (in-rct r) ≡ rct r.first
 unfolding plain
 rct_plain r = refl
+
+-- no stage more or less
+pub length-with_step : (x : PlainStep) (ts : List Plain) → length (with_step x ts) ≡ length ts
+length-with_step x [] = refl
+length-with_step x (lift l ss ∷ []) = refl
+length-with_step x (dep f rs ∷ []) = refl
+length-with_step x (rct f ∷ []) = refl
+length-with_step x (s ∷ t ∷ ts) = ap suc (length-with_step x (t ∷ ts))
+
+pub length-with_row : (x : PlainRow) (ts : List Plain) → length (with_row x ts) ≡ length ts
+length-with_row x [] = refl
+length-with_row x (lift l ss ∷ []) = refl
+length-with_row x (dep f rs ∷ []) = refl
+length-with_row x (rct f ∷ []) = refl
+length-with_row x (s ∷ t ∷ ts) = ap suc (length-with_row x (t ∷ ts))

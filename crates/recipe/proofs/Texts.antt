@@ -18,11 +18,11 @@ use Rattle.recipe.specs.Replies.{Reads}
 use Rattle.recipe.proofs.Faults.{some_from_cond, none_from_cond}
 use Rattle.recipe.proofs.Parting.{cut-some, heads-cons, final-cons}
 
-past-line : (s : Sofar) (line : ℕ) (l : List ℕ) (ls : List (List ℕ)) (tail : List ℕ) → line_fault s line (fields_of l) ≡ None → read_from s line (l ∷ ls) tail ≡ read_from (taken s (fields_of l)) (line + 1) ls tail
+pub past-line : (s : Sofar) (line : ℕ) (l : List ℕ) (ls : List (List ℕ)) (tail : List ℕ) → line_fault s line (fields_of l) ≡ None → read_from s line (l ∷ ls) tail ≡ read_from (taken s (fields_of l)) (line + 1) ls tail
 unfolding read_from
 past-line s line l ls tail e = rw (e, read_from)
 
-at-line : (s : Sofar) (line : ℕ) (l : List ℕ) (ls : List (List ℕ)) (tail : List ℕ) (f : Fault) → line_fault s line (fields_of l) ≡ Some f → read_from s line (l ∷ ls) tail ≡ Err f
+pub at-line : (s : Sofar) (line : ℕ) (l : List ℕ) (ls : List (List ℕ)) (tail : List ℕ) (f : Fault) → line_fault s line (fields_of l) ≡ Some f → read_from s line (l ∷ ls) tail ≡ Err f
 unfolding read_from
 at-line s line l ls tail f e = rw (e, read_from)
 

@@ -1,14 +1,43 @@
 -- The number that digits write, and its value with a sign.
-use Rattle.std.proofs.Common.{◌≡◌, ℕ, zero, suc, ◌+◌, ◌-◌, ◌*◌, min, true, false, eqb, List, [], ◌∷◌, get_or, drop, ℤ, pos, negsuc, neg_ℤ, Bool, false, cond, Some, None, Ok, Err, Result, w32, SFits, rules, sym, refl, ap, ◌∙◌, arith}
-use Rattle.std.proofs.lemmas.Bool.{cond-true, cond-false, eq-eqb, ne_eqb}
-use Rattle.std.specs.List.{fold}
+use Rattle.std.proofs.Common.{◌≡◌, ℕ, zero, suc, ◌+◌, ◌-◌, ◌*◌, ◌<◌, ◌≤◌, min, true, false, eqb, List, [], ◌∷◌, ◌++◌, length, get_or, take, drop, ℤ, pos, negsuc, neg_ℤ, Bool, false, cond, Some, None, Ok, Err, Result, w32, SFits, rules, sym, refl, ap, ◌∙◌, arith}
+use Rattle.std.proofs.lemmas.List.{take_more}
+use Rattle.std.proofs.lemmas.List.Sums.{AllPass-from_list_all}
+use Rattle.std.proofs.lemmas.Bool.{and_parts, both_ways, cond-true, cond-false, eq-eqb, ne_eqb}
+use Rattle.std.specs.List.{fold, list_all}
 use Rattle.std.specs.Int.Signed.{le_z}
 use Rattle.std.specs.Bool.{then_some}
 use Rattle.std.specs.Result.{OkIff, result_ok}
 use Rattle.std.specs.Ordering.{int_cmp, is_le}
 use Rattle.std.proofs.lemmas.Int.{ints}
-use Rattle.recipe.specs.Fields.{read_on, value_of}
+use Rattle.recipe.specs.Fields.{is_digit, is_natural, is_number, read_on, value_of}
 use Rattle.recipe.specs.Promises.{capped}
+use Rattle.recipe.proofs.Letters.{digit_range, number-plain, number-signed}
+
+read_on_push : (n : ℕ) (bs : List ℕ) (b : ℕ) → read_on n (bs ++ b ∷ []) ≡ read_on n bs * 10 + (b - 48)
+read_on_push n [] b = refl
+read_on_push n (a ∷ bs) b = read_on_push (n * 10 + (a - 48)) bs b
+
+-- one digit more
+pub read_on_more : (bs : List ℕ) (i : ℕ) → i < length bs → read_on 0 (take (i + 1) bs) ≡ read_on 0 (take i bs) * 10 + (get_or bs i 0 - 48)
+read_on_more bs i h = ap (read_on 0) (take_more bs i 0 h) ∙ read_on_push 0 (take i bs) (get_or bs i 0)
+
+pub digit_at : (bs : List ℕ) (i : ℕ) → i < length bs → list_all is_digit bs ≡ true → (48 ≤ get_or bs i 0) × (get_or bs i 0 ≤ 57)
+digit_at bs i h all = digit_range _ (AllPass-from_list_all is_digit bs all i 0 h)
+
+pub number-some : (bs : List ℕ) → is_number bs ≡ true → 0 < length bs
+unfolding is_number
+number-some [] n = absurd (both_ways false refl n)
+number-some (b ∷ bs) n = omega arith
+
+natural-digits : (bs : List ℕ) → is_natural bs ≡ true → list_all is_digit bs ≡ true
+natural-digits bs n = (and_parts (list_all is_digit bs) _ (and_parts _ _ n).1).0
+
+pub digits_plain : (bs : List ℕ) → is_number bs ≡ true → (get_or bs 0 0 ≡ 45 → ⊥) → list_all is_digit bs ≡ true
+digits_plain bs n ne = natural-digits bs (sym (number-plain bs ne) ∙ n)
+
+pub digits_behind : (bs : List ℕ) → is_number bs ≡ true → get_or bs 0 0 ≡ 45 → list_all is_digit (drop 1 bs) ≡ true
+digits_behind [] n e = refl
+digits_behind (b ∷ bs) n e = natural-digits bs (and_parts (is_natural bs) _ (sym (number-signed b bs e) ∙ n)).0
 
 -- a number that is cut off after each digit
 pub cut_off : (n : ℕ) (bs : List ℕ) → fold (λ m b. min (min (m * 10) 4294967295 + (b - 48)) 4294967295) (min n 4294967295) bs ≡ min (read_on n bs) 4294967295
