@@ -15,6 +15,7 @@ pub mod Inside
 pub mod Running
 pub mod Windows
 pub mod Stepping
+pub mod LiftRuns
 pub mod Lones
 pub mod Narrow
 pub mod Finding

@@ -22,12 +22,12 @@ use Rattle.transform.proofs.Narrow.{rows_fit}
 use Rattle.transform.proofs.Turning.{forth_exact}
 
 module _ (f : Shape) (l : PlainLift) (ss : List PlainStep) (s : SpanList) (w : Workable f (lift l ss) (rows_of s)) where
-  lift_room : l.first + l.count ≤ f.channels
+  pub lift_room : l.first + l.count ≤ f.channels
   lift_room = leb-true (l.first + l.count) f.channels w.fit
 
   -- two indices or more: the steps
   module _ (m : leb 2 (count_of f l) ≡ true) where
-    many_indices : 2 ≤ count_of f l
+    pub many_indices : 2 ≤ count_of f l
     many_indices = leb-true 2 (count_of f l) m
 
     fitting : (xs : List ℤ) → Within f (rows_of s) xs → Fitting (lift_passes f l l.parity ss) xs
@@ -72,7 +72,7 @@ module _ (f : Shape) (l : PlainLift) (ss : List PlainStep) (s : SpanList) (w : W
     same_half : (x y : ℤ) → x +ℤ x ≡ y +ℤ y → x ≡ y
     same_half x y e = omega (arith, ints)
 
-    halving_source : (ys zs : List ℤ) → length ys ≡ size_of f → Halved f l ys zs → OnlySource f (lift l ss) (rows_of s) ys zs
+    pub halving_source : (ys zs : List ℤ) → length ys ≡ size_of f → Halved f l ys zs → OnlySource f (lift l ss) (rows_of s) ys zs
     halving_source ys zs long d = record {
       gives = λ _. same-by-touch (lift_samples f l ss zs) ys (long_after zs) long
           (λ a h t. doubled-hit zs a h t ∙ (d.hit a (omega arith) t).1)
@@ -82,7 +82,7 @@ module _ (f : Shape) (l : PlainLift) (ss : List PlainStep) (s : SpanList) (w : W
           (λ a h t. d.kept a t ∙ sym (ap (λ v. at v a) gives) ∙ doubled-kept xs a h t);
     }
 
-    odd_foreign : (ys : List ℤ) → length ys ≡ size_of f → NoHalf f l ys → NoSource f (lift l ss) (rows_of s) ys
+    pub odd_foreign : (ys : List ℤ) → length ys ≡ size_of f → NoHalf f l ys → NoSource f (lift l ss) (rows_of s) ys
     odd_foreign ys long n xs inside gives =
         let h : n.address < size_of f = omega (arith, n.below) in
         n.odd (at xs n.address) (sym (doubled-hit xs n.address h n.hit) ∙ ap (λ v. at v n.address) gives)

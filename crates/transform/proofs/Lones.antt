@@ -1,23 +1,38 @@
 -- Lines of just one index: their samples are evenly spaced, and changed one after another.
-use Rattle.std.proofs.Common.{◌≡◌, ℕ, ◌+◌, ◌-◌, ◌*◌, ◌/◌, ◌%◌, ◌<◌, ◌≤◌, true, ◌≢◌, List, length, set, ℤ, sym, ap, ◌∙◌, subst, arith, below_more}
+use Rattle.std.proofs.Common.{◌≡◌, ℕ, ◌+◌, ◌-◌, ◌*◌, ◌/◌, ◌%◌, ◌<◌, ◌≤◌, true, ◌≢◌, List, length, set, ℤ, sym, refl, ap, ◌∙◌, subst, arith, below_more}
 use Rattle.std.proofs.lemmas.List.{get_or-set_same, get_or-set_other, length-set}
 use Rattle.std.proofs.lemmas.Bool.{and_parts, eqb-true, both_ways}
+use Rattle.std.proofs.lemmas.Bool.Decides.{nat_tests}
 use Rattle.sets.specs.declared.shape.Shape.{Shape}
 use Rattle.sets.specs.Areas.{size_of, at}
+use Rattle.stages.specs.declared.stage.Axis.{Axis}
+use Rattle.stages.specs.declared.stage.Axis.TheVariants.{Time, Channel}
 use Rattle.stages.specs.Plain.{PlainLift}
 use Rattle.rules.specs.Lifted.{count_of, touched, lone_odd}
-use Rattle.rules.proofs.LiftPlaces.{touched-index}
+use Rattle.rules.proofs.LiftPlaces.{along, touched-index}
 use Rattle.rules.proofs.Places.{time_below}
 use Rattle.transform.specs.declared.lines.Lines.{Lines}
 use Rattle.transform.specs.Lined.{spot, Spot, line_at, Lined}
 use Rattle.transform.specs.Lone.{Spaced, OddAt, Touched, NoHalf}
 use Rattle.transform.specs.Parts.{index_at}
 use Rattle.transform.proofs.Rows.{places_rise}
+use Rattle.transform.proofs.Spots.{first_at_zero}
+
+lone_along : (x : Axis) (f : Shape) (l : PlainLift) → lone_odd f (along x l) ≡ true → x ≡ Time
+lone_along Time f l h = refl
+lone_along Channel f l h = grind (arith, nat_tests, first_at_zero l.level)
+
+-- a line along the channels begins with index 0, which is even
+pub lone_time : (f : Shape) (l : PlainLift) → lone_odd f l ≡ true → l.axis ≡ Time
+lone_time f l h = lone_along l.axis f l h
 
 pub lone_count : (f : Shape) (l : PlainLift) → lone_odd f l ≡ true → count_of f l ≡ 1
 lone_count f l h = eqb-true _ _ (and_parts _ _ h).0
 
 module _ (R : ℤ → ℤ → Type 0) (start by : ℕ) (xs : List ℤ) where
+  pub spaced_none : Spaced R start by 0 xs xs
+  spaced_none = record { long = refl; hit = λ i h. absurd (omega arith); kept = λ a h. refl }
+
   module _ (n : ℕ) (ys : List ℤ) (step : 1 ≤ by) (d : Spaced R start by n xs ys) where
     -- the next sample still stands as it did
     pub spaced_old : at ys (start + n * by) ≡ at xs (start + n * by)

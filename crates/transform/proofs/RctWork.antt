@@ -14,7 +14,7 @@ use Rattle.transform.proofs.Narrow.{rows_fit}
 use Rattle.transform.proofs.Recolouring.{recolour_exact, uncolour_exact, uncolour_only}
 
 module _ (r : Rct) (f : Shape) (l : SpanList) (w : Workable f (rct r.first) (rows_of l)) where
-  rct_room : r.first + 3 ≤ f.channels
+  pub rct_room : r.first + 3 ≤ f.channels
   rct_room = leb-true (r.first + 3) f.channels w.fit
 
   pub rct_applied : (xs ys : List ℤ) → Within f (rows_of l) xs → RctTurned false f r.first xs ys → ys ≡ rct_samples f r.first xs

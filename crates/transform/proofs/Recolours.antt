@@ -1,5 +1,5 @@
 -- Three channels recoloured one instant after the other.
-use Rattle.std.proofs.Common.{◌≡◌, ℕ, ◌+◌, ◌<◌, ◌≤◌, Bool, ◌≢◌, List, length, set, ℤ, ap, ◌∙◌, subst, arith, w32, SFits, below_more}
+use Rattle.std.proofs.Common.{◌≡◌, ℕ, ◌+◌, ◌<◌, ◌≤◌, Bool, ◌≢◌, List, length, set, ℤ, refl, ap, ◌∙◌, subst, arith, w32, SFits, below_more}
 use Rattle.std.proofs.lemmas.Grind.{common_steps}
 use Rattle.std.proofs.lemmas.List.{length-set}
 use Rattle.sets.specs.Areas.{at}
@@ -34,6 +34,16 @@ module _ (ys : List ℤ) (i j k : ℕ) (new : Colours) where
     third_written = grind (arith, common_steps)
 
 module _ (undo : Bool) (p q r : ℕ) (xs : List ℤ) where
+  pub recoloured-none : Recoloured undo p q r 0 xs xs
+  recoloured-none = record {
+    long = refl;
+    fits = λ t h. absurd (omega arith);
+    first = λ t h. absurd (omega arith);
+    second = λ t h. absurd (omega arith);
+    third = λ t h. absurd (omega arith);
+    kept = λ a h. refl;
+  }
+
   module _ (n t : ℕ) (ys : List ℤ) (one : p + n ≤ q) (two : q + n ≤ r) (three : r + n ≤ length xs) (below : t < n) (so_far : Recoloured undo p q r t xs ys) where
     -- what is read at t stood there from the start
     old_first : at ys (p + t) ≡ at xs (p + t)

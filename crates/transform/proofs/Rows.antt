@@ -28,18 +28,21 @@ same-quotient q xs ys from shift same =
     (λ k h. get_or-map-range_with_len (λ k. at xs (get_or from k 0 + shift)) 0 q.tap_count k k (pos 0) h (omega arith) ∙ same k h))
 
 module _ (undo : Bool) (r : Row) (xs : List ℤ) where
+  pub rowed-none : Rowed undo r 0 xs xs
+  rowed-none = record { long = refl; hit = λ i h. absurd (omega arith); kept = λ a h. refl }
+
   module _ (i : ℕ) (ys : List ℤ) (below : i < r.count) (d : Rowed undo r i xs ys) where
     rise : (j : ℕ) → j < i → place r j < place r i
     rise j h = omega (arith, places_rise j i r.by r.spaced h)
 
     -- what the turn at i reads stood there from the start
-    row_old : at ys (place r i) ≡ at xs (place r i)
+    pub row_old : at ys (place r i) ≡ at xs (place r i)
     row_old = d.kept (place r i) (λ j h e. omega (arith, rise j h))
 
-    row_reads : quotient_at r.quotient ys r.from (i * r.by) ≡ quotient_at r.quotient xs r.from (i * r.by)
+    pub row_reads : quotient_at r.quotient ys r.from (i * r.by) ≡ quotient_at r.quotient xs r.from (i * r.by)
     row_reads = same-quotient r.quotient ys xs r.from (i * r.by) (λ k h. d.kept _ (λ j g e. r.apart k i j h below (omega arith) e))
 
-    rowed-more : (v : ℤ) → Fitted r (length xs) → SFits w32 (at ys (place r i)) → v ≡ turned_at undo r ys i → Rowed undo r (i + 1) xs (set ys (place r i) v)
+    pub rowed-more : (v : ℤ) → Fitted r (length xs) → SFits w32 (at ys (place r i)) → v ≡ turned_at undo r ys i → Rowed undo r (i + 1) xs (set ys (place r i) v)
     rowed-more v f fits e =
         let inside : place r i < length ys = omega (arith, f.inside i below, d.long) in
         record {

@@ -20,7 +20,7 @@ use Rattle.transform.specs.Near.{Near}
 use Rattle.transform.specs.Parts.{part_of, index_at, between, of_channel, below_channel, both}
 use Rattle.transform.specs.Turned.{Turned}
 use Rattle.transform.proofs.Inside.{read_moves}
-use Rattle.transform.proofs.Joining.{part_same, parts_joined}
+use Rattle.transform.proofs.Joining.{part_none, part_same, parts_joined}
 use Rattle.transform.proofs.Serving.{read_index_at, Served}
 
 -- a position further on by 2i, at twice the distance of positions
@@ -78,6 +78,9 @@ module _ (f : Shape) (l : PlainLift) (n : Lines) (lined : Lined f l n) (time : l
   module _ (m : Parity) (s : PlainStep) (i e : ℕ) where
     abbrev pass : Pass
     pass = lift_pass f l m s
+
+    pub runs_none : (undo : Bool) (xs : List ℤ) → length xs ≡ size_of f → Turned undo (part_of pass (both (between f l i e) (below_channel f (l.first + 0)))) xs xs
+    runs_none undo xs long = part_none undo pass _ xs (λ a h t. let found = channel_line a (omega arith) m t in grind (arith, nat_tests, found.3))
 
     pub runs_more : (undo : Bool) (r : ℕ) (xs ys zs : List ℤ) → l.first + l.count ≤ f.channels → 2 ≤ n.count → length xs ≡ size_of f →
         Turned undo (part_of pass (both (between f l i e) (below_channel f (l.first + r)))) xs ys → Turned undo (part_of pass (both (between f l i e) (of_channel f (l.first + r)))) ys zs →

@@ -18,7 +18,7 @@ use Rattle.transform.specs.Lined.{Lined}
 use Rattle.transform.specs.Parts.{part_of, index_at, of_index, between}
 use Rattle.transform.specs.Turned.{Turned}
 use Rattle.transform.specs.Turns.{Sized, Hits, TurnedAt, pass_of, at_position, from_to}
-use Rattle.transform.proofs.Joining.{part_same, part_whole, parts_joined}
+use Rattle.transform.proofs.Joining.{part_none, part_same, part_whole, parts_joined}
 
 -- numbers from i on and below e
 abbrev within : ℕ → ℕ → ℕ → Bool
@@ -57,8 +57,12 @@ module _ (f : Shape) (l : PlainLift) (m : Parity) (s : PlainStep) where
   hit_parity : (a : ℕ) → pass.hits a ≡ true → index_at f l a % 2 ≡ parity_of m
   hit_parity a t = eqb-true _ _ (and_parts (touched f l (a / f.samples) (a % f.samples)) _ t).1
 
+  -- a part of no index
+  pub window_none : (undo : Bool) (i : ℕ) (xs : List ℤ) → Turned undo (part_of pass (between f l i i)) xs xs
+  window_none undo i xs = part_none undo pass _ xs (λ a h t. grind (arith, nat_tests))
+
   -- an end that has not the parity of the step may be put off by one
-  window_end : (undo : Bool) (i j e : ℕ) (xs ys : List ℤ) → j % 2 ≡ parity_of m → e ≤ j → j ≤ e + 1 → Turned undo (part_of pass (between f l i j)) xs ys → Turned undo (part_of pass (between f l i e)) xs ys
+  pub window_end : (undo : Bool) (i j e : ℕ) (xs ys : List ℤ) → j % 2 ≡ parity_of m → e ≤ j → j ≤ e + 1 → Turned undo (part_of pass (between f l i j)) xs ys → Turned undo (part_of pass (between f l i e)) xs ys
   window_end undo i j e xs ys q low high d = part_same undo pass _ _ xs ys (λ a h t. same (index_at f l a) (hit_parity a t)) d
     where
       same : (x : ℕ) → x % 2 ≡ parity_of m → within i j x ≡ within i e x
@@ -73,7 +77,7 @@ module _ (f : Shape) (l : PlainLift) (m : Parity) (s : PlainStep) where
       and_from _ _ (le-leb i (index_at f l a) (omega (arith, index.from, hit_parity a t))) (lt-ltb (index_at f l a) _ index.until)) d
 
   -- from the first position of the parity on, as the code counts them
-  window_lines : (n : Lines) (p : ℕ) (undo : Bool) (xs ys : List ℤ) → Lined f l n → length xs ≡ size_of f → p ≡ parity_of m → p ≤ 1 →
+  pub window_lines : (n : Lines) (p : ℕ) (undo : Bool) (xs ys : List ℤ) → Lined f l n → length xs ≡ size_of f → p ≡ parity_of m → p ≤ 1 →
       Turned undo (part_of pass (between f l (n.first + (n.first + p) % 2) (n.first + n.count))) xs ys → Turned undo pass xs ys
   window_lines n p undo xs ys lined long e small d =
       let end : n.first + n.count ≡ first_of f l + count_of f l = λ i. lined.first i + lined.count i in
@@ -89,13 +93,13 @@ module _ (f : Shape) (l : PlainLift) (m : Parity) (s : PlainStep) where
         (λ a t. j.apart (index_at f l a) (ok a t)) (λ a t. j.left (index_at f l a) (ok a t)) (λ a t. j.right (index_at f l a) (ok a t)) (λ a h t. j.whole (index_at f l a) (ok a t)) d e
 
     -- one index more, which is that of the next position of the parity
-    window_more : (i j k : ℕ) → i ≤ j → k ≡ j + 2 → j % 2 ≡ parity_of m →
+    pub window_more : (i j k : ℕ) → i ≤ j → k ≡ j + 2 → j % 2 ≡ parity_of m →
         Turned undo (part_of pass (between f l i j)) xs ys → Turned undo (part_of pass (of_index f l j)) ys zs → Turned undo (part_of pass (between f l i k)) xs zs
     window_more i j k h n q d e =
         subst (λ x. Turned undo (part_of pass (between f l i x)) xs zs) (sym n)
         (windows_joined (within i j) (λ x. eqb x j) (within i (j + 2)) (Alike j) (λ x p. p ∙ sym q) (one_more i j h) d e)
 
-    window_joined : (i j e : ℕ) → i ≤ j → j ≤ e →
+    pub window_joined : (i j e : ℕ) → i ≤ j → j ≤ e →
         Turned undo (part_of pass (between f l i j)) xs ys → Turned undo (part_of pass (between f l j e)) ys zs → Turned undo (part_of pass (between f l i e)) xs zs
     window_joined i j e h g d b = windows_joined (within i j) (within j e) (within i e) (λ x. Unit {0}) (λ x p. tt) (runs_joined i j e h g _) d b
 
