@@ -1,15 +1,16 @@
 -- Undoing passes finds the set that gave an area, or shows that there is none.
-use Rattle.std.proofs.Common.{◌≡◌, ℕ, Bool, true, false, List, length, ℤ, sym, ap, ◌∙◌, subst}
+use Rattle.std.proofs.Common.{◌≡◌, Bool, true, false, List, length, ℤ, sym, ◌∙◌, subst}
 use Rattle.sets.specs.declared.bounds.Bounds.{Bounds}
 use Rattle.sets.specs.declared.shape.Shape.{Shape}
+use Rattle.sets.specs.declared.span_list.SpanList.{SpanList}
 use Rattle.sets.specs.Areas.{size_of, within, Within}
+use Rattle.sets.specs.Sets.{rows_of}
 use Rattle.sets.proofs.Everywhere.{within-from-true, not_within_from_false}
 use Rattle.stages.specs.Plain.{Plain}
-use Rattle.rack.specs.Calls.{Found}
 use Rattle.rules.specs.Passes.{Pass, ran, AllBlind, Fitting}
-use Rattle.rules.specs.Samples.{samples_after, bank}
+use Rattle.rules.specs.Samples.{samples_after}
 use Rattle.transform.specs.Turned.{Back}
-use Rattle.transform.specs.Work.{OnlySource}
+use Rattle.transform.specs.Work.{FoundSet, OnlySource, TakenBack, Workable}
 use Rattle.transform.proofs.Turning.{back_exact, back_only}
 
 module _ (f : Shape) (s : Plain) (bs : List Bounds) (ys zs : List ℤ) where
@@ -21,11 +22,11 @@ module _ (f : Shape) (s : Plain) (bs : List Bounds) (ys zs : List ℤ) where
     only = λ xs w g. back_only (size_of f) ps xs ys zs w.long blind (fit xs w) (sym (runs xs w.long) ∙ g) back;
   }
 
--- of a bank: the one source within the spans is the set that undoing finds, where it lies within them
-pub found_in_bank : (n : ℕ) (p : ℕ → ℕ → Plain) (f : Shape) (k : ℕ) (s : Plain) (bs : List Bounds) (ys zs : List ℤ) → s ≡ p f.channels k →
-    OnlySource f s bs ys zs → (r : Bool) → r ≡ within f bs zs → Found (bank n p) f k bs ys r zs
-found_in_bank n p f k s bs ys zs is o true e =
-    let w = within-from-true f bs zs (sym e) in
-    record { inside = w; gives = ap (λ t. samples_after f t zs) (sym is) ∙ o.gives w }
-found_in_bank n p f k s bs ys zs is o false e =
-    λ xs u. not_within_from_false f bs zs (sym e) (subst (Within f bs) (sym (o.only xs u.inside (ap (λ t. samples_after f t xs) is ∙ u.gives))) u.inside)
+  -- the one source is a set within the spans where it lies within them, and there is none where it does not
+  pub found_if_within : (Within f bs zs → samples_after f s zs ≡ ys) → ((xs : List ℤ) → Within f bs xs → samples_after f s xs ≡ ys → zs ≡ xs) → (r : Bool) → r ≡ within f bs zs → FoundSet f s bs ys r zs
+  found_if_within gives only true e = let w = within-from-true f bs zs (sym e) in (w, gives w)
+  found_if_within gives only false e = λ xs w g. not_within_from_false f bs zs (sym e) (subst (Within f bs) (sym (only xs w g)) w)
+
+-- what was taken back is found where it lies within the spans
+pub found_set : (f : Shape) (s : Plain) (l : SpanList) (ys zs : List ℤ) (r : Bool) → TakenBack f s ys true zs → Workable f s (rows_of l) → r ≡ within f (rows_of l) zs → FoundSet f s (rows_of l) ys r zs
+found_set f s l ys zs r back w e = let o = back l w in found_if_within f s (rows_of l) ys zs o.gives o.only r e

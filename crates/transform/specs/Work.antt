@@ -17,6 +17,11 @@ pub record Workable (f : Shape) (s : Plain) (bs : List Bounds) : Type 0 where
   pub many : length bs ≡ f.channels
   pub made : all_fit (bounds_made f s bs) ≡ true
 
+-- whether a set within the spans gives the area ys under the stage; if so, xs is one
+abbrev pub FoundSet : Shape → Plain → List Bounds → List ℤ → Bool → List ℤ → Type 0
+FoundSet f s bs ys true xs = Within f bs xs × (samples_after f s xs ≡ ys)
+FoundSet f s bs ys false xs = (zs : List ℤ) → Within f bs zs → samples_after f s zs ≢ ys
+
 -- xs became ys: what the stage makes of it, if xs is a set within spans that the stage may work on
 abbrev pub Applied : Shape → Plain → List ℤ → List ℤ → Type 0
 Applied f s xs ys = (l : SpanList) → Workable f s (rows_of l) → Within f (rows_of l) xs → ys ≡ samples_after f s xs

@@ -2,6 +2,7 @@ ghost use Rattle.std.specs.Prelude.{◌≡◌};
 ghost use Rattle.rules.specs.Samples.{bank};
 ghost use Rattle.rules.proofs.EveryKind.{every-bank-lawful};
 
+use crate::stage_work::undo_stage;
 use crate::work::Work;
 use rack::rack::Rack;
 use rack::stages::Stages;
@@ -61,7 +62,7 @@ impl<T: Table> Stages for Bank<T> {
 
     fn backward(&self, shape: &Shape, number: usize, spans: &SpanList, area: &mut [i32]) -> bool {
         let stage = self.table.stage(shape.channels, number);
-        stage.take_back(shape, area) && spans.hold(shape, area)
+        undo_stage(&stage, shape, spans, area)
     }
 }
 
