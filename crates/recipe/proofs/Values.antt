@@ -39,12 +39,10 @@ pub digits_behind : (bs : List ℕ) → is_number bs ≡ true → get_or bs 0 0 
 digits_behind [] n e = refl
 digits_behind (b ∷ bs) n e = natural-digits bs (and_parts (is_natural bs) _ (sym (number-signed b bs e) ∙ n)).0
 
--- a number that is cut off after each digit
-pub cut_off : (n : ℕ) (bs : List ℕ) → fold (λ m b. min (min (m * 10) 4294967295 + (b - 48)) 4294967295) (min n 4294967295) bs ≡ min (read_on n bs) 4294967295
-cut_off n [] = refl
-cut_off n (b ∷ bs) =
-    let e : min (min (min n 4294967295 * 10) 4294967295 + (b - 48)) 4294967295 ≡ min (n * 10 + (b - 48)) 4294967295 = omega arith in
-    ap (λ m. fold (λ m b. min (min (m * 10) 4294967295 + (b - 48)) 4294967295) m bs) e ∙ cut_off (n * 10 + (b - 48)) bs
+-- a number that is cut off before each digit
+pub cut_off : (m n : ℕ) (bs : List ℕ) → min m 4294967295 ≡ min n 4294967295 → min (fold (λ k b. min k 4294967295 * 10 + (b - 48)) m bs) 4294967295 ≡ min (read_on n bs) 4294967295
+cut_off m n [] e = e
+cut_off m n (b ∷ bs) e = cut_off (min m 4294967295 * 10 + (b - 48)) (n * 10 + (b - 48)) bs (omega (arith, e))
 
 capped-minus : (n : ℕ) → capped (neg_ℤ (pos n)) ≡ neg_ℤ (pos (min n 4294967295))
 capped-minus zero = refl

@@ -2,15 +2,18 @@ ghost use Rattle.std.specs.Prelude.{◌≡◌, min};
 ghost use Rattle.recipe.specs.Fields.{read_on, value_of};
 ghost use Rattle.recipe.specs.Promises.{capped, within};
 
-// The number that digits write, or 4,294,967,295 for any above: no limit is as high. By hand, since `parse` takes text and refuses
-// a number that is too high.
+// Where a number is cut off: no limit is as high.
+const MOST: u64 = 4_294_967_295;
+
+// The number that digits write, or 4,294,967,295 for any above. By hand, since `parse` takes text and refuses a number that is too high;
+// cut off before each digit, in 64 bits, so that nothing overflows and no digit needs a test.
 fn magnitude(digits: &[u8]) -> u32
     ensures { result ≡ min (read_on 0 digits.now) 4294967295 }
 {
-    digits.iter().fold(0u32, |n, b| {
-        n.saturating_mul(10)
-            .saturating_add(u32::from(b.saturating_sub(b'0')))
-    })
+    let number = digits.iter().fold(0u64, |n, b| {
+        n.min(MOST) * 10 + u64::from(b.saturating_sub(b'0'))
+    });
+    number.min(MOST) as u32
 }
 
 // The value of a number, of any length, with 4,294,967,295 for the magnitude of any above.
