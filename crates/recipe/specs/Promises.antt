@@ -1,12 +1,13 @@
 -- The shapes of what the parts of the reader promise one another.
 use Rattle.std.specs.Prelude.{◌≡◌, ℕ, ◌+◌, ◌<◌, ◌≤◌, min, ◌&&◌, nat_le, nat_lt, int_le, cond, List, [], ◌∷◌, ◌++◌, length, ℤ, pos, negsuc, ◌≤ℤ◌, Some, None, Ok, Err, Option, Result}
 use Rattle.std.specs.Borrow.{Bor}
+use Rattle.sets.specs.declared.shape.Shape.{Shape}
+use Rattle.sets.specs.declared.span.Span.{Span}
 use Rattle.sets.specs.Sets.{bounds_of}
 use Rattle.recipe.specs.declared.begun.Begun.{Begun}
 use Rattle.recipe.specs.declared.fault.Cause.TheVariants.{FieldCount, StageCount, WordDue}
 use Rattle.recipe.specs.declared.fault.Fault.{Fault}
 use Rattle.recipe.specs.declared.line.Line.{Line}
-use Rattle.recipe.specs.declared.request.Request.{Request}
 use Rattle.recipe.specs.Fields.{fields_of, lines_of, tail_of}
 use Rattle.recipe.specs.Grammar.{at_hand, fault_at, line_fault, taken}
 use Rattle.stages.specs.declared.stage.Stage.{Stage}
@@ -119,6 +120,6 @@ abbrev pub Takes : List Plain → ℕ → Line → List Plain → Result ℕ Fau
 Takes ts n l us r = Judged (line_fault (record { stages = ts; left = n }) l.number (fields_in l)) (Taken ts n l us) r
 
 -- what a SET line asks for, as it is handed out
-pub record Sets (fs : List (List ℕ)) (q : Request) : Type 0 where
-  pub shape : q.shape ≡ shape_from fs
-  pub span : bounds_of q.span ≡ span_from fs
+pub record Sets (fs : List (List ℕ)) (q : Shape × Span) : Type 0 where
+  pub shape : q.0 ≡ shape_from fs
+  pub span : bounds_of q.1 ≡ span_from fs

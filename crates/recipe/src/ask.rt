@@ -13,8 +13,8 @@ use crate::table::Recipe;
 use sets::shape::Shape;
 use sets::span::Span;
 
-// What the fields of a SET line ask for, with no recipe yet.
-fn set_line(line: &Line) -> Result<Request, Fault>
+// The shape and the span of a SET line's fields.
+fn set_line(line: &Line) -> Result<(Shape, Span), Fault>
     ensures { Judged (wrong_as set line.now) (Sets (fields_in line.now)) result }
 {
     let channels = line.natural(1, 1, 64)?;
@@ -22,20 +22,17 @@ fn set_line(line: &Line) -> Result<Request, Fault>
     let origin = line.natural(3, 0, 1048575)?;
     let least = line.number(4, -2147483648, 2147483647)?;
     let greatest = line.number(5, least, 2147483647)?;
-    Ok(Request {
-        shape: Shape {
-            channels,
-            samples,
-            origin,
-        },
-        span: Span { least, greatest },
-        recipe: Recipe::new(),
-    })
+    let shape = Shape {
+        channels,
+        samples,
+        origin,
+    };
+    Ok((shape, Span { least, greatest }))
 }
 
-// What a line asks for that must be a SET line.
+// The same of a line that must be a SET line.
 #[tactic(auto, unfolding(crate::specs::Fields::is_word))]
-fn set_due(line: &Line) -> Result<Request, Fault>
+fn set_due(line: &Line) -> Result<(Shape, Span), Fault>
     ensures { Judged (headed (codes "SET") set line.now.number (fields_in line.now)) (Sets (fields_in line.now)) result }
 {
     line.check_head(b"SET", 5, 5)?;
@@ -60,9 +57,15 @@ fn set_and_recipe(text: &[u8]) -> Result<Request, Fault>
     let Some(line) = lines.next_line() else {
         return Err(lines.ends_inside());
     };
-    let mut request = set_due(&line)?;
-    request.recipe.fill(lines)?;
-    Ok(request)
+    let (shape, span) = set_due(&line)?;
+    // Made only now, in place: a table is large beside a short text.
+    let mut recipe = Recipe::new();
+    recipe.fill(lines)?;
+    Ok(Request {
+        shape,
+        span,
+        recipe,
+    })
 }
 
 // Reads the text of a report: a SET line, and a recipe.

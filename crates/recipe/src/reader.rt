@@ -12,7 +12,7 @@ impl<'a> Line<'a> {
         ensures { result + 1 ≡ length (fields_of self.now.bytes.now) }
     {
         // A fold, and no `filter` and `count`: these branch at each byte, which is slow where commas come at random.
-        // A slice is shorter than the sum could wrap.
+        // A slice is too short for the sum to wrap.
         self.bytes
             .iter()
             .fold(0, |n: usize, b| n.wrapping_add(usize::from(*b == b',')))
