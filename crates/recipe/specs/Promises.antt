@@ -9,11 +9,10 @@ use Rattle.recipe.specs.declared.fault.Cause.TheVariants.{FieldCount, StageCount
 use Rattle.recipe.specs.declared.fault.Fault.{Fault}
 use Rattle.recipe.specs.declared.line.Line.{Line}
 use Rattle.recipe.specs.Fields.{fields_of, lines_of, tail_of}
-use Rattle.recipe.specs.Grammar.{at_hand, fault_at, line_fault, taken}
+use Rattle.recipe.specs.Grammar.{Sofar, fault_at, line_fault, taken}
 use Rattle.stages.specs.declared.stage.Stage.{Stage}
 use Rattle.stages.specs.Plain.{Plain, plain}
 use Rattle.recipe.specs.Requests.{shape_from, span_from}
-use Rattle.recipe.specs.Room.{room_in}
 use Rattle.recipe.specs.Rules.{Form, Rule, same, field, has_fields, first_wrong, rules_of}
 
 -- no line of the text ends
@@ -110,14 +109,9 @@ Opens ts l r = Judged (line_fault (record { stages = ts; left = 0 }) l.number (f
 abbrev pub Grows : Plain → Line → Result Stage Fault → Type 0
 Grows p l r = (ts : List Plain) (n : ℕ) → Judged (line_fault (record { stages = ts ++ p ∷ []; left = n + 1 }) l.number (fields_in l)) (λ t. taken (record { stages = ts ++ p ∷ []; left = n + 1 }) (fields_in l) ≡ record { stages = ts ++ plain t ∷ []; left = n }) r
 
--- the line l is taken where the table holds ts and n lines are due: then it holds us, and m lines are due, for which there is room
-pub record Taken (ts : List Plain) (n : ℕ) (l : Line) (us : List Plain) (m : ℕ) : Type 0 where
-  pub is : taken (record { stages = ts; left = n }) (fields_in l) ≡ record { stages = us; left = m }
-  pub fits : m ≤ room_in (at_hand us)
-
--- the answer to a line
-abbrev pub Takes : List Plain → ℕ → Line → List Plain → Result ℕ Fault → Type 0
-Takes ts n l us r = Judged (line_fault (record { stages = ts; left = n }) l.number (fields_in l)) (Taken ts n l us) r
+-- the answer to a line where s is read, and t is read then
+abbrev pub Takes : Sofar → Line → Sofar → Result Unit Fault → Type 0
+Takes s l t r = Judged (line_fault s l.number (fields_in l)) (λ _. taken s (fields_in l) ≡ t) r
 
 -- what a SET line asks for, as it is handed out
 pub record Sets (fs : List (List ℕ)) (q : Shape × Span) : Type 0 where

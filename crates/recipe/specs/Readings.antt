@@ -1,12 +1,18 @@
--- The lines that are read, one after the other.
+-- What a reading holds, and the lines that it reads.
 use Rattle.std.specs.Prelude.{◌≡◌, ◌+◌, List, Result}
 use Rattle.stages.specs.Plain.{Plain}
 use Rattle.recipe.specs.declared.fault.Fault.{Fault}
 use Rattle.recipe.specs.declared.line.Line.{Line}
 use Rattle.recipe.specs.declared.lines.Lines.{Lines}
+use Rattle.recipe.specs.declared.reading.Reading.{Reading}
 use Rattle.recipe.specs.Fields.{lines_of, tail_of}
 use Rattle.recipe.specs.Grammar.{Sofar, read_from}
 use Rattle.recipe.specs.Promises.{FirstLine, NoLine}
+use Rattle.recipe.specs.Tables.{table_of}
+
+-- the stages that have come, and the lines that are due
+abbrev pub so_far : Reading → Sofar
+so_far r = record { stages = table_of r.recipe.now; left = r.left }
 
 -- the answer to lines where s is read
 abbrev pub reading_from : Sofar → Lines → Result (List Plain) Fault

@@ -18,6 +18,7 @@ pub mod numbered;
 mod numbers;
 pub mod read;
 pub mod reader;
+mod reading;
 pub mod request;
 pub mod table;
 mod take;

@@ -1,28 +1,43 @@
+ghost use Rattle.std.specs.Prelude.{◌≡◌};
 ghost use Rattle.recipe.specs.Grammar.{begun, reading};
-ghost use Rattle.recipe.specs.Readings.{reading_from};
+ghost use Rattle.recipe.specs.Readings.{reading_from, so_far};
 ghost use Rattle.recipe.specs.Replies.{Answers, Reads};
 ghost use Rattle.recipe.specs.Tables.{table_of};
 ghost use Rattle.recipe.specs.Written.{ReadingLaws};
 
 use crate::fault::Fault;
 use crate::lines::Lines;
+use crate::reading::Reading;
 use crate::table::Recipe;
 
-impl Recipe {
-    // Takes the lines of a text into the table, in place of what it holds.
-    fn take_lines(&mut self, mut lines: Lines<'_>) -> Result<(), Fault>
-        ensures { Reads (reading_from begun lines.entry) (table_of self.new) result }
+impl Reading<'_> {
+    // Takes the lines of a text.
+    fn take_all(&mut self, mut lines: Lines<'_>) -> Result<(), Fault>
+        ensures reads { Reads (reading_from (so_far self.old) lines.entry) (table_of self.new.recipe.now) result }
+        ensures same { self.new.recipe.ghost_name ≡ self.old.recipe.ghost_name }
     {
-        self.len = 0; // what an earlier text left is let go
-        let mut left = 0;
         // No `Iterator`: a `for` would take the lines, which are looked at after the loop.
         while let Some(line) = lines.next_line() {
-            left = self.take(&line, left)?;
+            self.take(&line)?;
         }
-        if lines.rest.is_empty() && left == 0 {
+        if lines.rest.is_empty() && self.left == 0 {
             return Ok(());
         }
         Err(lines.ends_inside())
+    }
+}
+
+impl Recipe {
+    // Takes the lines of a text into the table, in place of what it holds.
+    fn take_lines(&mut self, lines: Lines<'_>) -> Result<(), Fault>
+        ensures { Reads (reading_from begun lines.entry) (table_of self.new) result }
+    {
+        self.len = 0; // what an earlier text left is let go
+        let mut reading = Reading {
+            recipe: self,
+            left: 0,
+        };
+        reading.take_all(lines)
     }
 
     // The recipe of the lines of a text; a refused text leaves the table empty.

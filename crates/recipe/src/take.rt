@@ -1,47 +1,50 @@
-ghost use Rattle.std.specs.Prelude.{◌<◌, ◌≤◌};
-ghost use Rattle.recipe.specs.Grammar.{at_hand};
+ghost use Rattle.std.specs.Prelude.{◌≡◌, ◌<◌};
 ghost use Rattle.recipe.specs.Promises.{Takes};
-ghost use Rattle.recipe.specs.Room.{room_in};
-ghost use Rattle.recipe.specs.Tables.{table_of};
+ghost use Rattle.recipe.specs.Readings.{so_far};
 
 use crate::fault::Fault;
 use crate::grow::grown;
 use crate::line::Line;
-use crate::table::Recipe;
+use crate::reading::Reading;
 
-// Each function fills the caller's table: a type of the table and the lines that are due would hold a copy of it.
-impl Recipe {
-    // Takes a line by which a stage begins; the answer is how many of its lines are still due.
-    fn begin(&mut self, line: &Line) -> Result<usize, Fault>
-        ensures { Takes (table_of self.old) 0 line.now (table_of self.new) result }
+// Each says that the table is the same caller's still.
+impl Reading<'_> {
+    // Takes a line by which a stage begins.
+    #[tactic(auto, using(crate::proofs::Tables::room_last))]
+    fn begin(&mut self, line: &Line) -> Result<(), Fault>
+        requires { self.old.left ≡ 0 }
+        ensures takes { Takes (so_far self.old) line.now (so_far self.new) result }
+        ensures same { self.new.recipe.ghost_name ≡ self.old.recipe.ghost_name }
     {
-        let begun = self.stage_line(line)?;
-        self.push(begun.stage);
-        Ok(begun.left)
+        let begun = self.recipe.stage_line(line)?;
+        self.recipe.push(begun.stage);
+        self.left = begun.left;
+        Ok(())
     }
 
-    // Takes one of the `left` lines of the stage at hand.
-    fn go_on(&mut self, line: &Line, left: usize) -> Result<usize, Fault>
-        requires due { 0 < left }
-        requires fits { left ≤ room_in (at_hand (table_of self.old)) }
-        ensures { Takes (table_of self.old) left line.now (table_of self.new) result }
+    // Takes one of the lines of the stage at hand that are due.
+    fn go_on(&mut self, line: &Line) -> Result<(), Fault>
+        requires { 0 < self.old.left }
+        ensures takes { Takes (so_far self.old) line.now (so_far self.new) result }
+        ensures same { self.new.recipe.ghost_name ≡ self.old.recipe.ghost_name }
     {
         // Tried a `&mut` to the stage in the table: the proof didn't close, since the check does not cover such a function.
-        let last = self.len - 1;
-        let stage = grown(self.stages[last], line)?;
-        self.stages[last] = stage;
-        Ok(left - 1)
+        let last = self.recipe.len - 1;
+        let stage = grown(self.recipe.stages[last], line)?;
+        self.left -= 1;
+        self.recipe.stages[last] = stage;
+        Ok(())
     }
 
-    // Takes a line where `left` lines of the stage at hand are due; the answer is how many are due then.
-    pub(crate) fn take(&mut self, line: &Line, left: usize) -> Result<usize, Fault>
-        requires { left ≤ room_in (at_hand (table_of self.old)) }
-        ensures { Takes (table_of self.old) left line.now (table_of self.new) result }
+    // Takes a line.
+    pub(crate) fn take(&mut self, line: &Line) -> Result<(), Fault>
+        ensures takes { Takes (so_far self.old) line.now (so_far self.new) result }
+        ensures same { self.new.recipe.ghost_name ≡ self.old.recipe.ghost_name }
     {
-        if left == 0 {
+        if self.left == 0 {
             self.begin(line)
         } else {
-            self.go_on(line, left)
+            self.go_on(line)
         }
     }
 }
